@@ -1,0 +1,10 @@
+//! What every crate of alarmd speaks in: the outside, texts and stamps.
+#![tactic(auto)]
+
+pub mod outside;
+pub mod stamp;
+pub mod text;
+
+pub use outside::{Clock, ReadFault, Sink, Source, WriteFault};
+pub use stamp::Stamp;
+pub use text::{Text, TextFault};

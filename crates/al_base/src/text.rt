@@ -1,0 +1,65 @@
+ghost use Rattle.std.specs.Prelude.{◌≡◌, ◌↔◌, IfOk, IsUtf8};
+
+use std::alloc::{AllocError, Global};
+use std::error::Error;
+use std::marker::Model;
+use std::{fmt, str};
+
+/// Why bytes are no text.
+#[derive(Clone, Copy, Debug, PartialEq, Eq)]
+pub enum TextFault {
+    /// The bytes aren't UTF-8.
+    NotUtf8,
+    /// There was no memory for the text.
+    Memory,
+}
+
+impl fmt::Display for TextFault {
+    fn fmt<W: fmt::Write>(&self, f: &mut fmt::Formatter<W>) -> fmt::Result {
+        f.write_str(match self {
+            TextFault::NotUtf8 => "the bytes aren't UTF-8",
+            TextFault::Memory => "out of memory",
+        })
+    }
+}
+
+impl Error for TextFault {}
+
+/// UTF-8 text, which contracts see as its bytes.
+#[derive(Debug, Drop)]
+pub struct Text {
+    bytes: Vec<u8>,
+}
+
+impl Model for Text {
+    ghost use Rattle.std.specs.Prelude.{List, ℕ, IsUtf8};
+
+    ghost Value = { List ℕ };
+
+    ghost view = { λ t. t.bytes.items };
+
+    ghost invariant = { λ t. IsUtf8 t.bytes.items };
+}
+
+impl Text {
+    /// The text of these bytes.
+    pub fn read(alloc: Global, bytes: &[u8]) -> Result<Text, TextFault>
+        ensures ok { IfOk result (λ text. (text ≡ bytes.now) × IsUtf8 bytes.now) }
+        ensures not_utf8 { (result ≡ Err TextFault.NotUtf8) ↔ ¬ (IsUtf8 bytes.now) }
+    {
+        let Ok(text) = str::from_utf8(bytes) else {
+            return Err(TextFault::NotUtf8);
+        };
+        match Vec::from_slice(alloc, text.as_bytes()) {
+            Ok(bytes) => Ok(Text { bytes }),
+            Err(AllocError) => Err(TextFault::Memory),
+        }
+    }
+
+    pub fn bytes(&self) -> &[u8]
+        ensures bytes { result.now ≡ self.now }
+        ensures utf8 { IsUtf8 result.now }
+    {
+        self.bytes.as_slice()
+    }
+}
