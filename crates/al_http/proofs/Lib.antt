@@ -1,2 +1,4 @@
 mod HeadLemmas
+mod RequestLemmas
 mod ScanLemmas
+mod StreamLemmas

@@ -34,15 +34,6 @@ pub record IsPlaceOn (desk : Desk) (place : Place) : Type 0 where
   pub within : IsRequestWithin (block_on desk place) desk.spans.items place.head
   pub whole : place.head.len ≡ length (block_on desk place)
 
--- the place is that of the head and body at the front, which were held
-pub record IsGiven (old new : Desk) (head : RequestSpans) (size : ℕ) (place : Place) : Type 0 where
-  pub same_bytes : new.bytes ≡ old.bytes
-  pub same_spans : new.spans ≡ old.spans
-  pub head_is : place.head ≡ head
-  pub start_is : place.start ≡ old.start
-  pub body_is : place.body ≡ old.start + head.len
-  pub end_is : place.end ≡ old.start + head.len + size
-
 -- a search for a block found its length, or how the stream ends
 abbrev pub Finds : List ℕ → Option (List ℕ) → Result (Option ℕ) Stop → Type 0
 Finds held stream (Ok (Some len)) = (len ≤ length held) × (len ≤ head_limit) × IsBlock (take len held)

@@ -1,5 +1,5 @@
 -- What a framer does to a stream: the bytes that it holds, then those that its source has left.
-use Rattle.std.specs.Prelude.{ℕ, List, Option, Some, None, Result, Ok, Err, IfSome, ⊤}
+use Rattle.std.specs.Prelude.{◌≡◌, ℕ, List, Option, Some, None, Result, Ok, Err, IfSome, ⊤}
 use Rattle.std.specs.Io.KnownBytes.{prepend_known, Keeps}
 use Rattle.al_http.specs.declared.framer.Stop.{Stop}
 use Rattle.al_http.specs.declared.framer.Stop.TheVariants.{ReadFault, Cut, Bad}
@@ -10,6 +10,10 @@ use Rattle.al_http.specs.Shown.{message_of}
 -- the bytes held, and then those left, where the source tells them
 abbrev pub stream_of : List ℕ → Option (List ℕ) → Option (List ℕ)
 stream_of held left = prepend_known held left
+
+-- the bytes are all of the stream
+abbrev pub IsAll : List ℕ → Option (List ℕ) → Type 0
+IsAll held stream = IfSome stream (λ bytes. bytes ≡ held)
 
 -- the stream loses the request at its front
 abbrev pub TakesRequest : Option (List ℕ) → Option (List ℕ) → RequestMessage → Type 0

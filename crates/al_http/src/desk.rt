@@ -1,7 +1,7 @@
 //! The buffer of a framer.
 
-ghost use Rattle.std.specs.Prelude.{◌≡◌, ◌+◌, ◌-◌, ◌<◌, ◌≤◌, [], length, take, drop, slice_range, vec_len, IfOk, OnErr, Ok, true, false};
-ghost use Rattle.std.specs.Io.KnownBytes.{Keeps, Consumes, IsAtEnd};
+ghost use Rattle.std.specs.Prelude.{◌≡◌, ◌+◌, ◌-◌, ◌<◌, ◌≤◌, [], length, take, drop, slice_range, vec_len, IfOk, OnErr, IfSome, IfNone, Ok, true, false};
+ghost use Rattle.std.specs.Io.KnownBytes.{Keeps, Consumes};
 ghost use Rattle.al_base.specs.Outside.{Rose, TellsEnd};
 
 use crate::framer::Stop;
@@ -46,10 +46,12 @@ pub(crate) struct Place {
 }
 
 impl Desk {
+    ghost use Rattle.httparse.specs.Spans.{IsRequestWithin};
     ghost use Rattle.al_http.specs.Blocks.{IsBlock};
-    ghost use Rattle.al_http.specs.Moves.{stream_of};
-    ghost use Rattle.al_http.specs.Shown.{message_of};
-    ghost use Rattle.al_http.specs.Desks.{held_bytes, message_on, IsPlaceOn, IsGiven, Finds, Takes, Serves};
+    ghost use Rattle.al_http.specs.Heads.{ReadsHead, RefusesBlock};
+    ghost use Rattle.al_http.specs.Moves.{stream_of, IsAll};
+    ghost use Rattle.al_http.specs.Shown.{message_at, message_of};
+    ghost use Rattle.al_http.specs.Desks.{held_bytes, message_on, IsPlaceOn, Finds, Takes, Serves};
 
     pub(crate) fn new(alloc: Global) -> Result<Desk, AllocError>
         ensures { IfOk result (λ desk. held_bytes desk ≡ []) }
@@ -101,7 +103,7 @@ impl Desk {
         ensures spans { self.new.spans ≡ self.old.spans }
         ensures stream { Keeps (stream_of (held_bytes self.old) (S.left source.old)) (stream_of (held_bytes self.new) (S.left source.new)) }
         ensures more { result ≡ Ok true → length (held_bytes self.old) < length (held_bytes self.new) }
-        ensures end { result ≡ Ok false → (held_bytes self.new ≡ held_bytes self.old) × IsAtEnd (S.left source.new) }
+        ensures end { result ≡ Ok false → (held_bytes self.new ≡ held_bytes self.old) × IsAll (held_bytes self.old) (stream_of (held_bytes self.old) (S.left source.old)) }
         ensures later { S.faults source.old ≤ S.faults source.new }
         ensures cause { OnErr result (Rose (S.faults source.old) (S.faults source.new)) }
     {
@@ -122,11 +124,11 @@ impl Desk {
         ensures spans { self.new.spans ≡ self.old.spans }
         ensures stream { Keeps (stream_of (held_bytes self.old) (S.left source.old)) (stream_of (held_bytes self.new) (S.left source.new)) }
         ensures full { result ≡ Ok true → need ≤ length (held_bytes self.new) }
-        ensures end { result ≡ Ok false → (length (held_bytes self.new) < need) × IsAtEnd (S.left source.new) }
+        ensures end { result ≡ Ok false → (length (held_bytes self.new) < need) × IsAll (held_bytes self.new) (stream_of (held_bytes self.old) (S.left source.old)) }
         ensures later { S.faults source.old ≤ S.faults source.new }
         ensures cause { OnErr result (Rose (S.faults source.old) (S.faults source.new)) }
     {
-        while self.len() < need {
+        'reading: while self.len() < need {
             match self.read_more(source) {
                 Ok(true) => {}
                 Ok(false) => return Ok(false),
@@ -139,13 +141,13 @@ impl Desk {
     /// Reads until a block is held, and answers its length.
     fn find_block<S: Source>(&mut self, source: &mut S) -> Result<Option<usize>, Stop>
         ensures stream { Keeps (stream_of (held_bytes self.old) (S.left source.old)) (stream_of (held_bytes self.new) (S.left source.new)) }
-        ensures finds { Finds (held_bytes self.new) (stream_of (held_bytes self.new) (S.left source.new)) result }
+        ensures finds { Finds (held_bytes self.new) (stream_of (held_bytes self.old) (S.left source.old)) result }
         ensures later { S.faults source.old ≤ S.faults source.new }
         ensures cause { result ≡ Err Stop.ReadFault → Rose (S.faults source.old) (S.faults source.new) }
     {
         let mut seen = Seen::Nothing;
         let mut done = 0;
-        loop {
+        'reading: loop {
             let end = self.len().min(MAX_HEAD);
             match look_on(seen, &self.held()[done..end]) {
                 Look::Ends(count) => return Ok(Some(done + count)),
@@ -173,8 +175,7 @@ impl Desk {
         ensures later { S.faults source.old ≤ S.faults source.new }
         ensures cause { result ≡ Err Stop.ReadFault → Rose (S.faults source.old) (S.faults source.new) }
     {
-        let block = &self.bytes[self.start..self.start + len];
-        let Some((head, size)) = read_head(block, &mut self.spans) else {
+        let Some((head, size)) = self.read_block(len) else {
             return Err(Stop::Bad);
         };
         match self.read_up_to(len + size, source) {
@@ -184,11 +185,26 @@ impl Desk {
         }
     }
 
+    /// Reads the head that the block of that length is, and the length of its body.
+    fn read_block(&mut self, len: usize) -> Option<(RequestSpans, usize)>
+        requires within { len ≤ length (held_bytes self.old) }
+        requires short { len ≤ 16384 }
+        requires is_block { IsBlock (take len (held_bytes self.old)) }
+        ensures held { held_bytes self.new ≡ held_bytes self.old }
+        ensures reads { IfSome result (λ found. ReadsHead (take len (held_bytes self.old)) self.new.spans.items found.0 found.1) }
+        ensures refuses { IfNone result (RefusesBlock (take len (held_bytes self.old))) }
+    {
+        let block = &self.bytes[self.start..self.start + len];
+        read_head(block, &mut self.spans)
+    }
+
     /// Gives the request at the front, which stays where it is until the next read.
     fn give(&mut self, head: RequestSpans, size: usize) -> Place
-        requires { head.len + size ≤ length (held_bytes self.old) }
+        requires fits { head.len + size ≤ length (held_bytes self.old) }
+        requires within { IsRequestWithin (take head.len (held_bytes self.old)) self.old.spans.items head }
         ensures held { held_bytes self.new ≡ drop (head.len + size) (held_bytes self.old) }
-        ensures place { IsGiven self.old self.new head size result }
+        ensures place { IsPlaceOn self.new result }
+        ensures message { message_on self.new result ≡ message_at (take head.len (held_bytes self.old)) (take head.headers self.old.spans.items) head (take size (drop head.len (held_bytes self.old))) }
     {
         let body = self.start + head.len;
         let place = Place {
