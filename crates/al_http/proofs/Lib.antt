@@ -2,3 +2,4 @@ mod HeadLemmas
 mod RequestLemmas
 mod ScanLemmas
 mod StreamLemmas
+pub mod StreamLaws

@@ -3,6 +3,7 @@ pub mod Requests
 pub mod Streams
 pub mod Shown
 pub mod Moves
+pub mod Laws
 pub mod Scans
 pub mod Heads
 pub mod Desks

@@ -6,6 +6,7 @@ pub mod framer;
 mod head;
 pub mod request;
 mod scan;
+pub mod stream;
 
 pub use framer::{Framer, Stop};
 pub use request::HttpRequest;
