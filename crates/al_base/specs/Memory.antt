@@ -42,7 +42,7 @@ abbrev pub after_read : SourceView → ℕ → SourceView
 after_read s size = record {
   left = if fails_next s.plan then s.left else drop (read_size s size) s.left;
   pieces = s.pieces;
-  plan = after_call s.plan (fails_next s.plan)
+  plan = after_call s.plan (fails_next s.plan);
 }
 
 -- A sink in memory: the bytes that it holds, and how many it can hold.
@@ -68,5 +68,5 @@ abbrev pub after_write : SinkView → List ℕ → SinkView
 after_write s piece = record {
   held = if refuses_next s then s.held else s.held ++ take (write_size s (length piece)) piece;
   room = s.room;
-  plan = after_call s.plan (refuses_next s)
+  plan = after_call s.plan (refuses_next s);
 }
