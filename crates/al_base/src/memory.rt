@@ -304,3 +304,82 @@ impl Clock for MemClock {
         self.last
     }
 }
+
+#[cfg(test)]
+mod tests {
+    use super::*;
+    use std::test::Fail;
+
+    /// The answers of so many reads, and the bytes that they gave.
+    fn read_times<S: Source>(
+        alloc: Global,
+        source: &mut S,
+        times: usize,
+    ) -> Result<(Vec<Result<usize, ReadFault>>, Vec<u8>), AllocError> {
+        let mut answers = Vec::new(alloc);
+        let mut bytes = Vec::new(alloc);
+        for _ in 0..times {
+            let mut buf = [0; 4];
+            let answer = source.read(&mut buf);
+            for byte in buf.iter().take(answer.unwrap_or(0)) {
+                bytes.push(*byte)?;
+            }
+            answers.push(answer)?;
+        }
+        Ok((answers, bytes))
+    }
+
+    fn write_times<O: Sink>(
+        alloc: Global,
+        sink: &mut O,
+        times: usize,
+    ) -> Result<Vec<Result<usize, WriteFault>>, AllocError> {
+        let mut answers = Vec::new(alloc);
+        for _ in 0..times {
+            answers.push(sink.write(b"abc"))?;
+        }
+        Ok(answers)
+    }
+
+    fn now_times<K: Clock>(
+        alloc: Global,
+        clock: &mut K,
+        times: usize,
+    ) -> Result<Vec<Stamp>, AllocError> {
+        let mut readings = Vec::new(alloc);
+        for _ in 0..times {
+            readings.push(clock.now())?;
+        }
+        Ok(readings)
+    }
+
+    #[test]
+    fn source_gives_its_pieces(rt: HostRuntime) -> Result<(), Fail> {
+        let mut source = MemSource::new(rt.alloc(), b"abcdef", &[1, 3], &[3])?;
+        let (answers, bytes) = read_times(rt.alloc(), &mut source, 5)?;
+        let expected = [Ok(1), Ok(3), Err(ReadFault), Ok(2), Ok(0)];
+        assert_eq!(rt; answers.as_slice(), expected.as_slice());
+        assert_eq!(rt; bytes.as_slice(), b"abcdef".as_slice());
+        Ok(())
+    }
+
+    #[test]
+    fn sink_keeps_what_fits(rt: HostRuntime) -> Result<(), Fail> {
+        let mut sink = MemSink::new(rt.alloc(), 5, &[2])?;
+        let answers = write_times(rt.alloc(), &mut sink, 4)?;
+        let expected = [Ok(3), Err(WriteFault), Ok(2), Err(WriteFault)];
+        assert_eq!(rt; answers.as_slice(), expected.as_slice());
+        assert_eq!(rt; sink.bytes(), b"abcab".as_slice());
+        Ok(())
+    }
+
+    #[test]
+    fn clock_repeats_its_last_reading(rt: HostRuntime) -> Result<(), Fail> {
+        let mut clock = MemClock::new(rt.alloc(), &[Stamp::LAST, Stamp::EPOCH])?;
+        let readings = now_times(rt.alloc(), &mut clock, 3)?;
+        assert_eq!(rt; readings.as_slice(), [Stamp::LAST, Stamp::EPOCH, Stamp::EPOCH].as_slice());
+        let mut empty = MemClock::new(rt.alloc(), &[])?;
+        assert_eq!(rt; empty.now(), Stamp::EPOCH);
+        Ok(())
+    }
+}
