@@ -2,14 +2,18 @@
 #![tactic(auto)]
 
 pub mod copied;
+pub mod event_type;
 pub mod list;
+pub mod operator;
 pub mod outside;
 pub mod severity;
 pub mod stamp;
 pub mod text;
 
 pub use copied::Copied;
+pub use event_type::EventType;
 pub use list::List;
+pub use operator::OperatorState;
 pub use outside::{Clock, ReadFault, Sink, Source, WriteFault};
 pub use severity::{Severity, Status};
 pub use stamp::Stamp;
