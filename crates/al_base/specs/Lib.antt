@@ -1,3 +1,4 @@
 pub mod Names
 pub mod Outside
 pub mod Readings
+pub mod Times
