@@ -1,3 +1,4 @@
+pub mod Memory
 pub mod Names
 pub mod Outside
 pub mod Readings

@@ -22,6 +22,14 @@ impl Model for Stamp {
 }
 
 impl Stamp {
+    /// The moment that all stamps count from.
+    pub const EPOCH: Stamp = Stamp { ms: 0 };
+
+    /// The last moment that a stamp can tell.
+    pub const LAST: Stamp = Stamp {
+        ms: 253_402_300_799_999,
+    };
+
     /// The stamp of so many milliseconds since 1970, None past the last one.
     pub fn of(ms: u64) -> Option<Stamp>
         ensures { SomeIff result (ms ≤ 253402300799999) ms }
