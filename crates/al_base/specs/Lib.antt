@@ -2,3 +2,4 @@ pub mod Memory
 pub mod Names
 pub mod Outside
 pub mod Readings
+pub mod Times
