@@ -1,0 +1,4 @@
+pub mod ErrorRows
+pub mod Fronts
+pub mod Phrases
+pub mod Responses
