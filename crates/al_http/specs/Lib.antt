@@ -2,3 +2,4 @@ pub mod ErrorRows
 pub mod Fronts
 pub mod Phrases
 pub mod Responses
+pub mod Told

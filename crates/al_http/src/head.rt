@@ -3,10 +3,11 @@
 ghost use Rattle.std.specs.Prelude.{◌≡◌, ◌+◌, ◌<◌, ◌≤◌, ◌++◌, ◌||◌, ◌==◌, if◌then◌else◌, [], codes, decimal, length};
 ghost use Rattle.std.specs.Int.{bit_at};
 ghost use Rattle.al_http.specs.ErrorRows.{IsErrorRow, error_row as row_of, error_text};
+ghost use Rattle.al_http.specs.Told.{told};
 ghost use Rattle.al_http.specs.Responses.{field, fields_text, status_line, place_field, method_list, allow_field, connection_field, body_of, media_type_of, HasBody};
 
 use crate::buffer::{Buffer, ROOM};
-use crate::error_row::error_row;
+use crate::error_row::{ErrorRow, error_row};
 use crate::phrase::phrase_of;
 use crate::response::{Content, Response};
 use itoa::Buffer as Digits;
@@ -148,22 +149,28 @@ fn push_length(buffer: &mut Buffer, status: u16, len: u64)
     }
 }
 
+fn media_type(content: &Content) -> &'static str
+    ensures text { result.now ≡ media_type_of content.now }
+    ensures short { length result.now ≤ 26 }
+{
+    match content {
+        Content::HostMeta => "application/xrd+xml",
+        Content::Empty | Content::Row(_) | Content::Tree(_) => "application/yang-data+json",
+    }
+}
+
 fn push_type(buffer: &mut Buffer, content: &Content, len: usize)
     requires { length buffer.old + 60 ≤ ROOM }
     ensures text { buffer.new ≡ buffer.old ++ (if len == 0 then [] else field (codes "Content-Type") (media_type_of content.now)) }
     ensures grown { length buffer.new ≤ length buffer.old + 60 }
 {
-    if len == 0 {
-        return;
-    }
-    match content {
-        Content::HostMeta => push_field(buffer, "Content-Type", "application/xrd+xml"),
-        _ => push_field(buffer, "Content-Type", "application/yang-data+json"),
+    if len != 0 {
+        push_field(buffer, "Content-Type", media_type(content));
     }
 }
 
 /// All of a head's lines but Location and the empty one.
-#[tactic(auto, unfolding(crate::specs::Responses::length_field, crate::specs::Responses::type_field))]
+#[tactic(auto, unfolding(crate::specs::Responses::fields_text, crate::specs::Responses::length_field, crate::specs::Responses::type_field))]
 pub fn push_fields(buffer: &mut Buffer, response: &Response, last: bool)
     requires empty { buffer.old ≡ [] }
     requires body { HasBody response.now.content }
@@ -179,13 +186,11 @@ pub fn push_fields(buffer: &mut Buffer, response: &Response, last: bool)
     push_type(buffer, &response.content, len);
 }
 
-/// The body of a refusal.
-pub fn push_row(buffer: &mut Buffer, number: u8)
-    requires row { IsErrorRow number }
-    requires room { length buffer.old + 200 ≤ ROOM }
-    ensures text { buffer.new ≡ buffer.old ++ error_text (row_of number) }
+/// The error list with one error.
+fn push_error(buffer: &mut Buffer, row: &ErrorRow)
+    requires { length buffer.old + length row.now.message.now + length row.now.tag.now + length row.now.error_type.now + 100 ≤ ROOM }
+    ensures { buffer.new ≡ buffer.old ++ error_text (told row.now) }
 {
-    let row = error_row(number);
     buffer.push_text("{\"ietf-restconf:errors\":{\"error\":[{\"error-message\":\"");
     buffer.push_text(row.message);
     buffer.push_text("\",\"error-tag\":\"");
@@ -193,4 +198,13 @@ pub fn push_row(buffer: &mut Buffer, number: u8)
     buffer.push_text("\",\"error-type\":\"");
     buffer.push_text(row.error_type);
     buffer.push_text("\"}]}}");
+}
+
+/// The body of a refusal.
+pub fn push_row(buffer: &mut Buffer, number: u8)
+    requires row { IsErrorRow number }
+    requires room { length buffer.old + 200 ≤ ROOM }
+    ensures { buffer.new ≡ buffer.old ++ error_text (row_of number) }
+{
+    push_error(buffer, &error_row(number));
 }
