@@ -1,0 +1,4 @@
+pub mod EscapeLemmas
+pub mod FrontLemmas
+pub mod MethodLemmas
+pub mod RowLemmas
