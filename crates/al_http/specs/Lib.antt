@@ -3,3 +3,11 @@ pub mod Fronts
 pub mod Phrases
 pub mod Responses
 pub mod Told
+pub mod Blocks
+pub mod Requests
+pub mod Streams
+pub mod Shown
+pub mod Moves
+pub mod Scans
+pub mod Heads
+pub mod Desks

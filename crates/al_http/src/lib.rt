@@ -11,3 +11,11 @@ mod sending;
 
 pub use response::{Content, Response};
 pub use sending::{respond, write_all};
+mod desk;
+pub mod framer;
+mod head;
+pub mod request;
+mod scan;
+
+pub use framer::{Framer, Stop};
+pub use request::HttpRequest;
