@@ -1,3 +1,5 @@
+pub mod Memory
 pub mod Names
 pub mod Outside
 pub mod Readings
+pub mod Times

@@ -1,4 +1,4 @@
-ghost use Rattle.std.specs.Prelude.{◌≡◌};
+ghost use Rattle.std.specs.Prelude.{◌≡◌, ◌≤◌, ◌↔◌, IsTrue};
 
 /// How grave an alarm is (RFC 8632, type `severity`), from the least to the gravest.
 #[derive(Clone, Copy, Debug, PartialEq, Eq, PartialOrd, Ord)]
@@ -11,7 +11,29 @@ pub enum Severity {
 }
 
 impl Severity {
-    ghost use Rattle.al_base.specs.Names.{severity_name};
+    ghost use Rattle.al_base.specs.Names.{rank_of, severity_name};
+
+    /// All severities, from the least to the gravest.
+    pub const ALL: [Severity; 5] = [
+        Severity::Indeterminate,
+        Severity::Warning,
+        Severity::Minor,
+        Severity::Major,
+        Severity::Critical,
+    ];
+
+    /// The severity's place from the least, which is 0, to the gravest.
+    pub fn rank(self) -> u8
+        ensures { result ≡ rank_of self }
+    {
+        self as u8
+    }
+
+    pub fn is_at_least(self, level: Severity) -> bool
+        ensures { IsTrue result ↔ (rank_of level ≤ rank_of self) }
+    {
+        self >= level
+    }
 
     /// The word that stands for the severity in messages.
     pub fn name(self) -> &'static str
@@ -24,6 +46,18 @@ impl Severity {
             Severity::Major => "major",
             Severity::Critical => "critical",
         }
+    }
+
+    /// The severity of this name, if there is one.
+    pub fn read(name: &[u8]) -> Option<Severity>
+        ensures { (severity : Severity) → (result ≡ Some severity) ↔ (name.now ≡ severity_name severity) }
+    {
+        for severity in &Severity::ALL {
+            if severity.name().as_bytes() == name {
+                return Some(*severity);
+            }
+        }
+        None
     }
 }
 
@@ -45,5 +79,15 @@ impl Status {
             Status::Cleared => "cleared",
             Status::Active(severity) => severity.name(),
         }
+    }
+
+    /// The status of this name, if there is one.
+    pub fn read(name: &[u8]) -> Option<Status>
+        ensures { (status : Status) → (result ≡ Some status) ↔ (name.now ≡ status_name status) }
+    {
+        if name == b"cleared".as_slice() {
+            return Some(Status::Cleared);
+        }
+        Severity::read(name).map(Status::Active)
     }
 }

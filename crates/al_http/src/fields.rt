@@ -1,20 +1,14 @@
-//! The lines of a response's head.
+//! The status line and the fields of a response.
 
 ghost use Rattle.std.specs.Prelude.{◌≡◌, ◌+◌, ◌<◌, ◌≤◌, ◌++◌, ◌||◌, ◌==◌, if◌then◌else◌, [], codes, decimal, length};
 ghost use Rattle.std.specs.Int.{bit_at};
-ghost use Rattle.al_http.specs.ErrorRows.{IsErrorRow, error_row as row_of, error_text};
-ghost use Rattle.al_http.specs.Told.{told};
-ghost use Rattle.al_http.specs.Responses.{field, fields_text, status_line, place_field, method_list, allow_field, connection_field, body_of, media_type_of, HasBody};
+ghost use Rattle.al_http.specs.Responses.{field, fields_text, status_line, place_field, method_list, allow_field, connection_field, media_type_of, HasRow};
 
+use crate::body::{body_len, media_type};
 use crate::buffer::{Buffer, ROOM};
-use crate::error_row::{ErrorRow, error_row};
 use crate::phrase::phrase_of;
 use crate::response::{Content, Response};
 use itoa::Buffer as Digits;
-
-/// The body that names the root of RESTCONF (RFC 8040, section 3.1).
-pub const HOST_META: &str =
-    "<XRD xmlns='http://docs.oasis-open.org/ns/xri/xrd-1.0'><Link rel='restconf' href='/restconf'/></XRD>";
 
 fn push_field(buffer: &mut Buffer, name: &str, value: &str)
     requires { length buffer.old + length name.now + length value.now + 4 ≤ ROOM }
@@ -122,23 +116,6 @@ fn push_connection(buffer: &mut Buffer, last: bool)
     }
 }
 
-/// The length of the body.
-#[tactic(auto, unfolding(crate::specs::Responses::body_of))]
-fn body_len(content: &Content) -> usize
-    requires { HasBody content.now }
-    ensures { result ≡ length (body_of content.now) }
-{
-    match content {
-        Content::Empty => 0,
-        Content::Row(number) => {
-            let row = error_row(*number);
-            88 + row.message.len() + row.tag.len() + row.error_type.len()
-        }
-        Content::HostMeta => HOST_META.len(),
-        Content::Tree(text) => text.as_slice().len(),
-    }
-}
-
 fn push_length(buffer: &mut Buffer, status: u16, len: u64)
     requires { length buffer.old + 60 ≤ ROOM }
     ensures text { buffer.new ≡ buffer.old ++ (if status == 204 then [] else field (codes "Content-Length") (decimal len)) }
@@ -146,16 +123,6 @@ fn push_length(buffer: &mut Buffer, status: u16, len: u64)
 {
     if status != 204 {
         push_number_field(buffer, "Content-Length", len);
-    }
-}
-
-fn media_type(content: &Content) -> &'static str
-    ensures text { result.now ≡ media_type_of content.now }
-    ensures short { length result.now ≤ 26 }
-{
-    match content {
-        Content::HostMeta => "application/xrd+xml",
-        Content::Empty | Content::Row(_) | Content::Tree(_) => "application/yang-data+json",
     }
 }
 
@@ -173,7 +140,7 @@ fn push_type(buffer: &mut Buffer, content: &Content, len: usize)
 #[tactic(auto, unfolding(crate::specs::Responses::fields_text, crate::specs::Responses::length_field, crate::specs::Responses::type_field))]
 pub fn push_fields(buffer: &mut Buffer, response: &Response, last: bool)
     requires empty { buffer.old ≡ [] }
-    requires body { HasBody response.now.content }
+    requires body { HasRow response.now.content }
     ensures text { buffer.new ≡ fields_text response.now last }
     ensures grown { length buffer.new ≤ 400 }
 {
@@ -184,27 +151,4 @@ pub fn push_fields(buffer: &mut Buffer, response: &Response, last: bool)
     push_connection(buffer, last);
     push_length(buffer, response.status, len as u64);
     push_type(buffer, &response.content, len);
-}
-
-/// The error list with one error.
-fn push_error(buffer: &mut Buffer, row: &ErrorRow)
-    requires { length buffer.old + length row.now.message.now + length row.now.tag.now + length row.now.error_type.now + 100 ≤ ROOM }
-    ensures { buffer.new ≡ buffer.old ++ error_text (told row.now) }
-{
-    buffer.push_text("{\"ietf-restconf:errors\":{\"error\":[{\"error-message\":\"");
-    buffer.push_text(row.message);
-    buffer.push_text("\",\"error-tag\":\"");
-    buffer.push_text(row.tag);
-    buffer.push_text("\",\"error-type\":\"");
-    buffer.push_text(row.error_type);
-    buffer.push_text("\"}]}}");
-}
-
-/// The body of a refusal.
-pub fn push_row(buffer: &mut Buffer, number: u8)
-    requires row { IsErrorRow number }
-    requires room { length buffer.old + 200 ≤ ROOM }
-    ensures { buffer.new ≡ buffer.old ++ error_text (row_of number) }
-{
-    push_error(buffer, &error_row(number));
 }

@@ -1,0 +1,3 @@
+mod Copies
+pub mod Days
+pub mod StampText
