@@ -1,8 +1,8 @@
-pub mod EscapeLemmas
-pub mod FrontLemmas
-pub mod MethodLemmas
-pub mod RowLemmas
+mod EscapeLemmas
+mod FrontLemmas
 mod HeadLemmas
+mod MethodLemmas
 mod RequestLemmas
+mod RowLemmas
 mod ScanLemmas
 mod StreamLemmas

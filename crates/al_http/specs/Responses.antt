@@ -107,16 +107,16 @@ response_text response last =
     ++ crlf
     ++ (if response.bare then [] else body_of response.content)
 
--- the content has a body: an error's number is one of the rows
-abbrev pub HasBody : Content → Type 0
-HasBody Empty = ⊤
-HasBody (Row number) = IsErrorRow number
-HasBody HostMeta = ⊤
-HasBody (Tree text) = ⊤
+-- the number of a refusal is one of the rows
+abbrev pub HasRow : Content → Type 0
+HasRow Empty = ⊤
+HasRow (Row number) = IsErrorRow number
+HasRow HostMeta = ⊤
+HasRow (Tree text) = ⊤
 
 -- the response can be written
 abbrev pub HasText : Response → Type 0
-HasText response = HasPhrase response.status × HasBody response.content
+HasText response = HasPhrase response.status × HasRow response.content
 
 -- the refusal of a row
 abbrev pub refusal : ℕ → Option ℕ → Response

@@ -4,11 +4,12 @@ ghost use Rattle.std.specs.Prelude.{◌≡◌, ◌+◌, ◌≤◌, ◌++◌, [],
 ghost use Rattle.std.specs.Io.KnownBytes.{Appends};
 ghost use Rattle.al_base.specs.Outside.{Rose};
 ghost use Rattle.al_http.specs.Fronts.{AppendsFront, Gathers};
-ghost use Rattle.al_http.specs.Responses.{escaped, location_field, crlf, body_of, HasBody, HasText, response_text};
+ghost use Rattle.al_http.specs.Responses.{escaped, location_field, crlf, body_of, HasRow, HasText, response_text};
 
+use crate::body::{HOST_META, push_row};
 use crate::buffer::{Buffer, ROOM};
 use crate::escape::push_escape;
-use crate::head::{HOST_META, push_fields, push_row};
+use crate::fields::push_fields;
 use crate::response::{Content, Response};
 use al_base::{Sink, Text, WriteFault};
 
@@ -123,7 +124,7 @@ fn send_body<O: Sink>(
     response: &Response,
 ) -> Result<(), WriteFault>
     requires room { length buffer.old ≤ 705 }
-    requires body { HasBody response.now.content }
+    requires body { HasRow response.now.content }
     ensures ok { OnOk result (Appends (O.held sink.old) (O.held sink.new) (buffer.old ++ crlf ++ (if response.now.bare then [] else body_of response.now.content))) }
     ensures fault { OnErr result (AppendsFront (O.held sink.old) (O.held sink.new) (buffer.old ++ crlf ++ (if response.now.bare then [] else body_of response.now.content))) }
     ensures later { O.faults sink.old ≤ O.faults sink.new }

@@ -2,7 +2,7 @@ use Rattle.std.proofs.Common.{◌==◌}
 use Rattle.std.specs.Int.{bit_at}
 use Rattle.al_http.specs.Responses.{method_list}
 use Rattle.al_http.proofs.MethodLemmas.{joined_behind}
-use Rattle.al_http.proofs.head.push_methods.Goals as goal
+use Rattle.al_http.proofs.fields.push_methods.Goals as goal
 
 pub returns-clause-text : goal.returns-clause-text
 unfolding method_list

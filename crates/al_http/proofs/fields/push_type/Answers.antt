@@ -1,5 +1,5 @@
 use Rattle.std.proofs.lemmas.Bool.{ne_eqb}
-use Rattle.al_http.proofs.head.push_type.Goals as goal
+use Rattle.al_http.proofs.fields.push_type.Goals as goal
 
 pub returns-then-len-ne0-clause-text : goal.returns-then-len-ne0-clause-text
 returns-then-len-ne0-clause-text c =
