@@ -1,5 +1,5 @@
 -- What a clock that tells its readings will read.
-use Rattle.std.specs.Prelude.{ℕ, List, [], ◌∷◌, Result}
+use Rattle.std.specs.Prelude.{ℕ, List, [], ◌∷◌}
 
 -- The readings to come. When they are used up, the last one is repeated.
 pub record Readings : Type 0 where

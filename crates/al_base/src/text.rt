@@ -1,6 +1,15 @@
+ghost use Rattle.std.proofs.Common.{rules};
+ghost use Rattle.std.specs.Bool.{◌==◌};
+ghost use Rattle.std.specs.Cmp.Lexicographic.{slice_cmp};
+ghost use Rattle.std.specs.Cmp.Rules.{comparing};
+ghost use Rattle.std.specs.Cmp.{partial_order_from_own_ties};
+ghost use Rattle.std.specs.Ordering.{as_partial_cmp, nat_cmp};
 ghost use Rattle.std.specs.Prelude.{◌≡◌, ◌↔◌, IfOk, IsUtf8};
+ghost use lib.Pointwise.{pointwise};
 
+use crate::copied::Copied;
 use std::alloc::{AllocError, Global};
+use std::cmp::Ordering;
 use std::error::Error;
 use std::marker::Model;
 use std::{fmt, str};
@@ -61,5 +70,71 @@ impl Text {
         ensures utf8 { IsUtf8 result.now }
     {
         self.bytes.as_slice()
+    }
+}
+
+// Texts are compared by their bytes.
+
+impl PartialEq for Text {
+    ghost eq = { pointwise ◌==◌ };
+
+    ghost laws = { Prim.search (comparing, rules) };
+
+    fn eq(&self, other: &Text) -> bool {
+        self.bytes.as_slice() == other.bytes.as_slice()
+    }
+}
+
+impl Eq for Text {
+    ghost laws = { Prim.search (comparing, rules) };
+}
+
+impl PartialOrd for Text {
+    ghost partial_cmp = { as_partial_cmp (slice_cmp nat_cmp) };
+
+    ghost laws = { partial_order_from_own_ties (Prim.search (comparing, rules)) (Prim.search (comparing, rules)) };
+
+    fn partial_cmp(&self, other: &Text) -> Option<Ordering> {
+        Some(self.cmp(other))
+    }
+}
+
+impl Ord for Text {
+    ghost cmp = { slice_cmp nat_cmp };
+
+    ghost total = { Prim.search (comparing, rules) };
+
+    ghost matches_partial_cmp = { Prim.search (comparing, rules) };
+
+    ghost matches_eq = { Prim.search (comparing, rules) };
+
+    fn cmp(&self, other: &Text) -> Ordering {
+        self.bytes.as_slice().cmp(&other.bytes.as_slice())
+    }
+}
+
+impl Copied for Text {
+    fn copy(&self, alloc: Global) -> Result<Text, AllocError> {
+        Ok(Text {
+            bytes: Vec::from_slice(alloc, self.bytes.as_slice())?,
+        })
+    }
+}
+
+#[cfg(test)]
+mod tests {
+    use super::*;
+    use std::test::Fail;
+
+    #[test]
+    fn reads_utf8_alone(rt: HostRuntime) -> Result<(), Fail> {
+        let alloc = rt.alloc();
+        for bytes in [b"".as_slice(), b"eth1", b"\xc3\xa9\xe2\x82\xac"] {
+            assert_eq!(rt; Text::read(alloc, bytes)?.bytes(), bytes);
+        }
+        for bytes in [b"\xff".as_slice(), b"\xc3", b"\xed\xa0\x80"] {
+            assert!(rt; matches!(Text::read(alloc, bytes), Err(TextFault::NotUtf8)));
+        }
+        Ok(())
     }
 }

@@ -1,0 +1,6 @@
+pub mod Alarms
+pub mod Decision
+pub mod History
+pub mod Laws
+pub mod Limits
+pub mod State

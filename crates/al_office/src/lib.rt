@@ -1,0 +1,8 @@
+//! The office: the history and the alarms that it leaves, changed as one.
+#![tactic(auto)]
+
+mod alarm;
+mod office;
+mod tables;
+
+pub use office::Office;
