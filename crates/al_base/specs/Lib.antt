@@ -1,3 +1,6 @@
+pub mod Identifiers
+pub mod Memory
 pub mod Names
 pub mod Outside
 pub mod Readings
+pub mod Times

@@ -1,2 +1,21 @@
 //! HTTP/1.1 over a source and a sink: requests out of bytes (RFC 9112), responses into bytes.
 #![tactic(auto)]
+
+mod body;
+mod buffer;
+mod desk;
+mod error_row;
+mod escape;
+mod fields;
+pub mod framer;
+mod head;
+mod phrase;
+pub mod request;
+pub mod response;
+mod scan;
+mod sending;
+
+pub use framer::{Framer, Stop};
+pub use request::HttpRequest;
+pub use response::{Content, Response};
+pub use sending::{respond, write_all};

@@ -1,0 +1,8 @@
+mod EscapeLemmas
+mod FrontLemmas
+mod HeadLemmas
+mod MethodLemmas
+mod RequestLemmas
+mod RowLemmas
+mod ScanLemmas
+mod StreamLemmas

@@ -1,0 +1,15 @@
+use Rattle.std.proofs.Common.{arith}
+use Rattle.std.proofs.lemmas.List.{length-drop}
+use Rattle.std.proofs.Math.Seq.{take-add}
+use Rattle.al_http.proofs.FrontLemmas.{appends_more, rest_behind}
+use Rattle.al_http.proofs.sending.write_all.Goals as goal
+
+pub loop-taken-preserved : goal.loop-taken-preserved
+loop-taken-preserved g c =
+    record {
+      within = omega (arith, rw (rest_behind c.loop-taken.taken c.args.bytes.now, length-drop c.loop-taken.taken c.args.bytes.now) at c.in-Ok.ensures.within);
+      written =
+          rw (take-add c.loop-taken.taken c.in-Ok.count c.args.bytes.now)
+          (appends_more _ _ _ _ _ c.loop-taken.invariant.written (rw (rest_behind c.loop-taken.taken c.args.bytes.now) at c.in-Ok.ensures.took));
+      later = omega arith;
+    }
