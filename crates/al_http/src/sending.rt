@@ -25,10 +25,7 @@ pub fn write_all<O: Sink>(sink: &mut O, bytes: &[u8]) -> Result<(), WriteFault>
 {
     let mut taken = 0;
     while taken < bytes.len() {
-        match sink.write(&bytes[taken..]) {
-            Ok(count) => taken += count,
-            Err(fault) => return Err(fault),
-        }
+        taken += sink.write(&bytes[taken..])?;
     }
     Ok(())
 }
@@ -44,13 +41,9 @@ fn make_room<O: Sink>(sink: &mut O, buffer: &mut Buffer) -> Result<(), WriteFaul
     if buffer.len() <= GATHERED {
         return Ok(());
     }
-    match write_all(sink, buffer.bytes()) {
-        Ok(()) => {
-            buffer.clear();
-            Ok(())
-        }
-        Err(fault) => Err(fault),
-    }
+    write_all(sink, buffer.bytes())?;
+    buffer.clear();
+    Ok(())
 }
 
 /// Sends the name of a shelf as it stands in a path, and leaves the last of it gathered.
@@ -63,10 +56,8 @@ fn send_escaped<O: Sink>(sink: &mut O, buffer: &mut Buffer, name: &[u8]) -> Resu
     ensures cause { OnErr result (Rose (O.faults sink.old) (O.faults sink.new)) }
 {
     for byte in name {
-        match make_room(sink, buffer) {
-            Ok(()) => push_escape(buffer, *byte),
-            Err(fault) => return Err(fault),
-        }
+        make_room(sink, buffer)?;
+        push_escape(buffer, *byte);
     }
     Ok(())
 }
@@ -90,13 +81,9 @@ fn send_location<O: Sink>(
     };
     buffer.push_text("Location: ");
     buffer.push_text("/restconf/data/ietf-alarms:alarms/control/alarm-shelving/shelf=");
-    match send_escaped(sink, buffer, name.bytes()) {
-        Ok(()) => {
-            buffer.push_text("\r\n");
-            Ok(())
-        }
-        Err(fault) => Err(fault),
-    }
+    send_escaped(sink, buffer, name.bytes())?;
+    buffer.push_text("\r\n");
+    Ok(())
 }
 
 /// Sends what was gathered and then a text, together where both fit.
@@ -110,10 +97,8 @@ fn send_with<O: Sink>(sink: &mut O, buffer: &mut Buffer, text: &[u8]) -> Result<
         buffer.push(text);
         return write_all(sink, buffer.bytes());
     }
-    match write_all(sink, buffer.bytes()) {
-        Ok(()) => write_all(sink, text),
-        Err(fault) => Err(fault),
-    }
+    write_all(sink, buffer.bytes())?;
+    write_all(sink, text)
 }
 
 /// Sends what was gathered, the empty line and the body.
@@ -156,10 +141,8 @@ pub fn respond<O: Sink>(sink: &mut O, response: &Response, last: bool) -> Result
 {
     let mut buffer = Buffer::new();
     push_fields(&mut buffer, response, last);
-    match send_location(sink, &mut buffer, &response.location) {
-        Ok(()) => send_body(sink, &mut buffer, response),
-        Err(fault) => Err(fault),
-    }
+    send_location(sink, &mut buffer, &response.location)?;
+    send_body(sink, &mut buffer, response)
 }
 
 #[cfg(test)]
