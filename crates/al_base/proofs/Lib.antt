@@ -1,3 +1,4 @@
 mod Copies
 pub mod Days
 pub mod StampText
+pub mod TypeNames

@@ -1,3 +1,4 @@
+pub mod Identifiers
 pub mod Memory
 pub mod Names
 pub mod Outside

@@ -1,5 +1,5 @@
 -- What the objects of the outside that lie in memory hold.
-use Rattle.std.specs.Prelude.{◌≡◌, ℕ, ◌+◌, ◌-◌, ◌==◌, min, Bool, true, if◌then◌else◌, List, ◌++◌, length, take, drop, slice_get, unwrap_or, Result, Ok, Err}
+use Rattle.std.specs.Prelude.{ℕ, ◌+◌, ◌-◌, ◌==◌, min, Bool, true, if◌then◌else◌, List, ◌++◌, length, take, drop, slice_get, unwrap_or, Result, Ok, Err}
 use Rattle.std.specs.List.{list_any}
 use Rattle.al_base.specs.Outside.{last_count}
 use Rattle.al_base.specs.declared.outside.ReadFault.{ReadFault}

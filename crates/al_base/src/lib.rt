@@ -11,6 +11,7 @@ pub mod severity;
 pub mod stamp;
 pub mod standard;
 pub mod text;
+pub mod type_id;
 
 pub use copied::Copied;
 pub use event_type::EventType;
@@ -22,3 +23,4 @@ pub use severity::{Severity, Status};
 pub use stamp::Stamp;
 pub use standard::{Reading, SystemClock, Writing};
 pub use text::{Text, TextFault};
+pub use type_id::{TypeFault, TypeId};

@@ -1,4 +1,9 @@
-pub mod EscapeLemmas
-pub mod FrontLemmas
-pub mod MethodLemmas
-pub mod RowLemmas
+mod EscapeLemmas
+mod FrontLemmas
+mod HeadLemmas
+mod MethodLemmas
+mod RequestLemmas
+mod RowLemmas
+mod ScanLemmas
+mod StreamLemmas
+pub mod StreamLaws

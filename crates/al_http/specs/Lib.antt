@@ -1,5 +1,14 @@
+pub mod Blocks
+pub mod Desks
 pub mod ErrorRows
 pub mod Fronts
+pub mod Heads
+pub mod Laws
+pub mod Moves
 pub mod Phrases
+pub mod Requests
 pub mod Responses
+pub mod Scans
+pub mod Shown
+pub mod Streams
 pub mod Told

@@ -3,12 +3,20 @@
 
 mod body;
 mod buffer;
+mod desk;
 mod error_row;
 mod escape;
 mod fields;
+pub mod framer;
+mod head;
 mod phrase;
+pub mod request;
 pub mod response;
+mod scan;
 mod sending;
+pub mod stream;
 
+pub use framer::{Framer, Stop};
+pub use request::HttpRequest;
 pub use response::{Content, Response};
 pub use sending::{respond, write_all};

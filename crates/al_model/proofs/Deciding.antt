@@ -1,11 +1,11 @@
 -- What a decision says of the step.
-use Rattle.std.proofs.Common.{◌≡◌, ◌≢◌, ◌==◌, ◌≤◌, ℕ, Bool, true, false, cond, Option, Some, None, refl, ap, sym, subst, arith}
+use Rattle.std.proofs.Common.{◌≡◌, ◌≢◌, ◌==◌, ◌<◌, ◌≤◌, ℕ, Bool, true, false, cond, Option, Some, None, refl, ap, sym, subst, arith}
 use Rattle.std.specs.Option.{is_some}
 use Rattle.std.proofs.lemmas.Bool.Decides.{Decides-eqb}
 use Rattle.al_model.specs.Alarms.{AlarmState, alarm_of, reported}
-use Rattle.al_model.specs.Decision.{entry_time, decision_on, decision_of, entry_of, event_of, changes, IsSame, IsChangeBy}
+use Rattle.al_model.specs.Decision.{entry_time, decision_on, decision_of, entry_of, event_of, changes, reply_of, IsSame, IsChangeBy}
 use Rattle.al_model.specs.Limits.{last_stamp, IsRequestWithin}
-use Rattle.al_model.specs.History.{Fits}
+use Rattle.al_model.specs.History.{asked_for, Fits}
 use Rattle.al_model.specs.State.{State, with_change, alarms_after, step, IsSameButTime}
 use Rattle.al_model.specs.declared.decision.Decision.{Decision}
 use Rattle.al_model.specs.declared.decision.Decision.TheVariants.{Refuse, Same, Change}
@@ -100,3 +100,15 @@ decided_fits s origin (requests.Report r status t) now event reply before within
       later = omega arith;
       asked = subst (IsChangeBy (decision_on s (events.Report r status t))) (sym d.1) d.2;
     }
+
+-- an event that is decided on has a time before the last stamp
+pub decided_early : (s : State) (request : Request) (now : ℕ) (event : Event) (reply : Reply) → s.time ≤ last_stamp → decision_of s request now ≡ Change event reply → s.time < last_stamp
+unfolding decision_of
+decided_early s request now event reply before h =
+    let d = change_is (changes s (event_of s request)) (s.time == last_stamp) (event_of s request) (reply_of s (event_of s request)) event reply h in
+    let early : s.time ≢ last_stamp = λ e. let late = (Decides-eqb s.time last_stamp).1 e in absurd (cc) in
+    omega arith
+
+-- an entry that fits changes something
+pub entry_changes : (s : State) (event : Event) (now : ℕ) → IsChangeBy (decision_of s (asked_for s event) now) event → changes s event ≡ true
+entry_changes s (events.Report r status t) now h = fitting_changes s (requests.Report r status t) now (events.Report r status t) h

@@ -1,3 +1,4 @@
+use crate::event::Event;
 use al_base::{Copied, Status, Text};
 use std::alloc::{AllocError, Global};
 
@@ -21,6 +22,29 @@ impl Drop for Request {
                 status: _,
                 text: _,
             } => {}
+        }
+    }
+}
+
+impl Request {
+    ghost use Rattle.std.specs.Prelude.{◌≡◌};
+    ghost use Rattle.al_model.specs.Decision.{event_of};
+    ghost use Rattle.al_model.specs.State.{State};
+
+    /// The event by which the request is carried out.
+    pub fn into_event(self) -> Event
+        ensures { (s : State) → result ≡ event_of s self }
+    {
+        match self {
+            Request::Report {
+                resource,
+                status,
+                text,
+            } => Event::Report {
+                resource,
+                status,
+                text,
+            },
         }
     }
 }

@@ -1,4 +1,4 @@
-use Rattle.std.proofs.Common.{◌≡◌, length, take, drop, arith}
+use Rattle.std.proofs.Common.{arith}
 use Rattle.std.proofs.lemmas.Grind.{common_steps}
 use Rattle.al_base.proofs.Copies.{gives_front}
 use Rattle.al_base.proofs.memory.copy_from.Goals as goal

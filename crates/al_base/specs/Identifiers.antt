@@ -1,0 +1,26 @@
+-- Identifiers of YANG, and alarm types, which are named by two of them.
+use Rattle.std.specs.Prelude.{◌≡◌, ℕ, ◌≤◌, ◌==◌, ◌||◌, ◌&&◌, Bool, false, IsTrue, List, [], ◌∷◌, ◌++◌, length}
+use Rattle.std.specs.List.{list_all}
+use Rattle.std.specs.Char.{is_ascii_alphabetic, is_ascii_alphanumeric}
+
+-- a letter, or `_`
+abbrev pub begins_identifier : ℕ → Bool
+begins_identifier byte = is_ascii_alphabetic byte || (byte == 95)
+
+-- a letter, a digit, `_`, `-` or `.`
+abbrev pub continues_identifier : ℕ → Bool
+continues_identifier byte = is_ascii_alphanumeric byte || (byte == 95) || (byte == 45) || (byte == 46)
+
+abbrev pub is_identifier : List ℕ → Bool
+is_identifier [] = false
+is_identifier (first ∷ rest) = begins_identifier first && list_all continues_identifier rest
+
+-- `module:identity`, in 3 to 128 bytes; 58 is the colon
+pub record IsTypeName (text : List ℕ) : Type 0 where
+  pub defined_in : List ℕ
+  pub identity : List ℕ
+  pub spelling : text ≡ defined_in ++ 58 ∷ identity
+  pub has_module : IsTrue (is_identifier defined_in)
+  pub has_identity : IsTrue (is_identifier identity)
+  pub shortest : 3 ≤ length text
+  pub longest : length text ≤ 128

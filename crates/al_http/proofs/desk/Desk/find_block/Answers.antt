@@ -1,0 +1,53 @@
+use Rattle.std.proofs.Common.{rules, ◌≡◌, ◌+◌, ◌-◌, ◌<◌, ◌≤◌, length, take, List, ℕ, ◌++◌, drop, min, sym, ap, subst, inl, inr, lit<, arith}
+use Rattle.std.proofs.lemmas.List.{length-append, take-append-le, length-take, length-drop}
+use Rattle.al_http.specs.Blocks.{IsBlock, HoldsNoBlock}
+use Rattle.al_http.specs.Requests.{IsBad}
+use Rattle.al_http.specs.Scans.{IsAfter, Looks}
+use Rattle.al_http.specs.Desks.{held_bytes}
+use Rattle.al_http.proofs.ScanLemmas.{after_none}
+use Rattle.al_http.proofs.StreamLemmas.{keeps_same, keeps_both, kept_has, stream_all, take_on, take_to, front_kept}
+use Rattle.al_http.proofs.desk.Desk.find_block.Goals as goal
+
+pub reading-init : goal.reading-init
+reading-init g c = record {
+  stream = keeps_same _;
+  later = omega arith;
+  seen = after_none;
+  held = omega arith;
+  short = lit< tt;
+}
+
+pub returns-in-Ends-clause-finds : goal.returns-in-Ends-clause-finds
+returns-in-Ends-clause-finds g c =
+    let held = held_bytes c.reading.self in
+    let looks = rw c.held.ensures at (c.in-Ends.ensures _ c.reading.invariant.seen) in
+    let part : length (take (c.min-end.result - c.reading.done) (drop c.reading.done held)) ≡ min (c.min-end.result - c.reading.done) (length (drop c.reading.done held)) = length-take _ (drop c.reading.done held) in
+    let size = length-drop c.reading.done held in
+    (omega (arith, looks.0, c.len.ensures, c.min-end.ensures), omega (arith, looks.0, c.len.ensures, c.min-end.ensures),
+     rw (take_on held c.reading.done c.min-end.result c.in-Ends.count looks.0) at looks.1)
+
+pub returns-then-done-eq-MAX_HEAD-clause-finds : goal.returns-then-done-eq-MAX_HEAD-clause-finds
+returns-then-done-eq-MAX_HEAD-clause-finds g c =
+    let held = held_bytes c.reading.self in
+    let from : c.reading.done ≤ c.min-end.result = omega arith in
+    let seen = rw (c.held.ensures, take_to held c.reading.done c.min-end.result from, c.if-done-eq-MAX_HEAD.true) at (c.in-Goes.ensures _ c.reading.invariant.seen) in
+    let long : 16384 ≤ length held = omega arith in
+    kept_has IsBad _ _ c.reading.invariant.stream (stream_all IsBad held _ (λ more. inl (record {
+      long = omega (arith, length-append held more);
+      no_block = rw (take-append-le 16384 held more long) seen.no_block
+    })))
+
+pub reading-preserved : goal.reading-preserved
+reading-preserved g c =
+    let held = held_bytes c.reading.self in
+    let from : c.reading.done ≤ c.min-end.result = omega arith in
+    let within : c.min-end.result ≤ length held = omega arith in
+    let seen = rw (c.held.ensures, take_to held c.reading.done c.min-end.result from) at (c.in-Goes.ensures _ c.reading.invariant.seen) in
+    let more : length held < length (held_bytes c.read_more.new.self) = c.read_more.ensures.more (cc) in
+    record {
+      stream = keeps_both _ _ _ c.reading.invariant.stream c.read_more.ensures.stream;
+      later = omega (arith, c.reading.invariant.later, c.read_more.ensures.later);
+      seen = rw (front_kept held (held_bytes c.read_more.new.self) c.min-end.result within c.read_more.ensures.kept) seen;
+      held = omega arith;
+      short = omega arith;
+    }

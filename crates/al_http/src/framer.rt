@@ -1,0 +1,85 @@
+ghost use Rattle.std.specs.Prelude.{◌≡◌, ◌≤◌, [], IfOk};
+ghost use Rattle.std.specs.Borrow.{sem};
+ghost use Rattle.std.specs.Io.BufRead.{Rests};
+ghost use Rattle.al_base.specs.Outside.{Rose};
+
+use crate::desk::Desk;
+use crate::request::HttpRequest;
+use al_base::Source;
+use std::alloc::{AllocError, Global};
+use std::error::Error;
+use std::fmt;
+use std::marker::Model;
+
+/// Why a framer has no further request.
+#[derive(Clone, Copy, Debug, PartialEq, Eq)]
+pub enum Stop {
+    /// A read failed. What was read before it is kept.
+    ReadFault,
+    /// The input ends inside a request.
+    Cut,
+    /// The input is no request: a framing refusal.
+    Bad,
+}
+
+impl fmt::Display for Stop {
+    fn fmt<W: fmt::Write>(&self, f: &mut fmt::Formatter<W>) -> fmt::Result {
+        f.write_str(match self {
+            Stop::ReadFault => "a read failed",
+            Stop::Cut => "the input ends inside a request",
+            Stop::Bad => "the input is no request",
+        })
+    }
+}
+
+impl Error for Stop {}
+
+/// Cuts the bytes of a source into requests (RFC 9112). Contracts see it as the bytes that it has read and not yet given.
+#[derive(Drop)]
+pub struct Framer {
+    desk: Desk,
+}
+
+impl Model for Framer {
+    ghost use Rattle.std.specs.Prelude.{List, ℕ};
+    ghost use Rattle.al_http.specs.Desks.{held_bytes};
+
+    ghost Value = { List ℕ };
+
+    ghost view = { λ f. held_bytes f.desk };
+}
+
+impl Framer {
+    ghost use Rattle.al_http.specs.contracts.framer.Framer.{the_row};
+    ghost use Rattle.al_http.specs.Moves.{Moves, stream_of};
+
+    /// A framer with all the room that it will need: for a head of 16,384 bytes, the places of 64 fields and a body of 1,048,576 bytes.
+    pub fn new(alloc: Global) -> Result<Framer, AllocError>
+        ensures { IfOk result (λ framer. framer ≡ []) }
+    {
+        Ok(Framer {
+            desk: Desk::new(alloc)?,
+        })
+    }
+
+    /// Forgets what was read, so that the next call begins a new input.
+    pub fn clear(&mut self)
+        ensures { self.new ≡ [] }
+    {
+        self.desk.clear();
+    }
+
+    /// The next request of the stream, which is the bytes held and then those that the source has left, in whatever pieces they come.
+    pub fn next<S: Source>(&mut self, source: &mut S) -> Result<Option<HttpRequest<'_>>, Stop>
+        ensures* moves { sem 𝓛 (Rests the_row self.entry (λ new.
+            Moves (stream_of self.old (S.left source.old)) (stream_of new (S.left source.new)) result)) }
+        ensures later { S.faults source.old ≤ S.faults source.new }
+        ensures cause { result ≡ Err Stop.ReadFault → Rose (S.faults source.old) (S.faults source.new) }
+    {
+        match self.desk.take_request(source) {
+            Ok(Some(place)) => Ok(Some(self.desk.request_at(place))),
+            Ok(None) => Ok(None),
+            Err(stop) => Err(stop),
+        }
+    }
+}

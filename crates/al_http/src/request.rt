@@ -1,0 +1,99 @@
+ghost use Rattle.std.specs.Prelude.{◌≡◌, length, position, slice_get, All};
+ghost use Rattle.std.specs.Option.{option_copied};
+ghost use Rattle.httparse.specs.Spans.{IsWithin, IsHeaderWithin};
+ghost use Rattle.al_http.specs.Requests.{is_question_mark, path_of, query_of, values_of};
+
+use crate::head::value_at;
+use httparse::spans::{HeaderSpan, RequestSpans};
+
+/// A request as it lies in its framer: a head that is within the limits, and exactly its body.
+#[derive(Drop)]
+pub struct HttpRequest<'a> {
+    block: &'a [u8],
+    headers: &'a [HeaderSpan],
+    head: RequestSpans,
+    body: &'a [u8],
+    ghost method_within: { IsWithin (length block.now) head.method },
+    ghost path_within: { IsWithin (length block.now) head.path },
+    ghost headers_within: { All (IsHeaderWithin (length block.now)) headers.now },
+}
+
+impl<'a> HttpRequest<'a> {
+    ghost use Rattle.al_http.specs.Shown.{message_of, message_at};
+
+    /// The request whose head is the block, with its parts at those places.
+    pub(crate) fn of(
+        block: &'a [u8],
+        headers: &'a [HeaderSpan],
+        head: RequestSpans,
+        body: &'a [u8],
+    ) -> HttpRequest<'a>
+        requires method { IsWithin (length block.now) head.method }
+        requires path { IsWithin (length block.now) head.path }
+        requires headers { All (IsHeaderWithin (length block.now)) headers.now }
+        ensures { message_of result ≡ message_at block.now headers.now head body.now }
+    {
+        HttpRequest {
+            block,
+            headers,
+            head,
+            body,
+        }
+    }
+
+    /// The method, as sent.
+    pub fn method(&self) -> &[u8]
+        ensures { result.now ≡ (message_of self.now).method }
+    {
+        self.head.method.of(self.block)
+    }
+
+    fn target(&self) -> &[u8]
+        ensures { result.now ≡ (message_of self.now).target }
+    {
+        self.head.path.of(self.block)
+    }
+
+    /// The target up to its first `?`, or all of it.
+    pub fn path(&self) -> &[u8]
+        ensures { result.now ≡ path_of (message_of self.now).target }
+    {
+        let target = self.target();
+        match question_mark(target) {
+            Some(mark) => &target[..mark],
+            None => target,
+        }
+    }
+
+    /// The target behind its first `?`, if it has one.
+    pub fn query(&self) -> Option<&[u8]>
+        ensures { option_copied result ≡ query_of (message_of self.now).target }
+    {
+        let target = self.target();
+        match question_mark(target) {
+            Some(mark) => Some(&target[mark + 1..]),
+            None => None,
+        }
+    }
+
+    /// The value of field number `n`, counted from 0, of those with that name, in any ASCII case.
+    pub fn field(&self, name: &[u8], n: usize) -> Option<&[u8]>
+        ensures { option_copied result ≡ slice_get (values_of name.now (message_of self.now).fields) n }
+    {
+        value_at(self.block, self.headers, name, n)
+    }
+
+    /// The body.
+    pub fn body(&self) -> &[u8]
+        ensures { result.now ≡ (message_of self.now).body }
+    {
+        self.body
+    }
+}
+
+/// Where the first `?` is.
+fn question_mark(target: &[u8]) -> Option<usize>
+    ensures { result ≡ position is_question_mark target.now }
+{
+    target.iter().position(|byte| *byte == b'?')
+}

@@ -1,0 +1,40 @@
+-- What the office keeps, as a history grows.
+use Rattle.std.proofs.Common.{◌≡◌, ℕ, ◌<◌, ◌≤◌, List, [], ◌∷◌, ◌++◌, ap, sym, ◌∙◌, subst, arith, lit≤}
+use Rattle.al_model.specs.Alarms.{IsInOrder}
+use Rattle.al_model.specs.Decision.{decision_of, entry_time}
+use Rattle.al_model.specs.History.{replay, Fits}
+use Rattle.al_model.specs.Limits.{last_stamp, IsRequestWithin}
+use Rattle.al_model.specs.State.{State, start, alarms_after, step}
+use Rattle.al_model.specs.declared.decision.Decision.TheVariants.{Change}
+use Rattle.al_model.specs.declared.decision.Reply.{Reply}
+use Rattle.al_model.specs.declared.entry.Entry.{Entry}
+use Rattle.al_model.specs.declared.event.Event.{Event}
+use Rattle.al_model.specs.declared.request.Request.{Request}
+use Rattle.al_model.proofs.Deciding.{decided_fits, decided_early}
+use Rattle.al_model.proofs.Histories.{in_order_from, time_from, legal_push, replay-push}
+use Rattle.al_model.proofs.Placing.{in_order_none}
+use Rattle.al_office.specs.Office.{IsKept}
+
+-- the alarms stand in order
+pub in_order : (h : List Entry) (s : State) → IsKept h s → IsInOrder s.alarms
+in_order h s k = subst (λ t. IsInOrder t.alarms) (sym k.tables) (in_order_from start h in_order_none)
+
+-- there is a time for an entry that was decided on
+pub early : (h : List Entry) (s : State) (request : Request) (now : ℕ) (event : Event) (reply : Reply) → IsKept h s → decision_of s request now ≡ Change event reply → s.time < last_stamp
+early h s request now event reply k is = decided_early s request now event reply (subst (λ t. t.time ≤ last_stamp) (sym k.tables) (time_from start h (lit≤ tt) k.legal)) is
+
+-- an entry that was decided on fits
+pub fits : (h : List Entry) (s : State) (origin : ℕ) (request : Request) (now : ℕ) (event : Event) (reply : Reply) (time : ℕ) → IsKept h s → IsRequestWithin request → decision_of s request now ≡ Change event reply → time ≡ entry_time s now → time ≤ last_stamp → (let e : Entry = record { time = time; origin = origin; event = event } in Fits (replay h) e)
+fits h s origin request now event reply time k within is at last =
+    let reading : now ≤ last_stamp = omega arith in
+    let of_time : ℕ → Entry = λ t. record { time = t; origin = origin; event = event } in
+    let f = decided_fits s origin request now event reply (subst (λ t. t.time ≤ last_stamp) (sym k.tables) (time_from start h (lit≤ tt) k.legal)) within reading is in
+    subst (λ t. Fits t (of_time time)) k.tables (subst (λ t. Fits s (of_time t)) (sym at) f)
+
+-- one more entry, with its step, is kept
+pub kept_more : (h : List Entry) (e : Entry) (s new : State) → IsKept h s → Fits (replay h) e → new.alarms ≡ alarms_after s.alarms e.event → new.time ≡ e.time → IsKept (h ++ e ∷ []) new
+unfolding step
+kept_more h e s new k f alarms time =
+    let made : State → State = λ t. record { alarms = alarms_after t.alarms e.event; time = e.time } in
+    let stepped : new ≡ made s = λ i. let t : State = record { alarms = alarms i; time = time i } in t in
+    record { legal = legal_push h e k.legal f; tables = stepped ∙ ap made k.tables ∙ sym (replay-push h e) }

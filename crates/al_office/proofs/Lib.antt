@@ -1,0 +1,4 @@
+pub mod Keeping
+pub mod Places
+pub mod Preparing
+pub mod Verdicts

@@ -1,0 +1,3 @@
+pub mod Office
+pub mod Tables
+pub mod View
