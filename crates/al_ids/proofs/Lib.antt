@@ -1,0 +1,2 @@
+pub mod OidsRead
+pub mod PathsRead

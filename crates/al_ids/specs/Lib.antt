@@ -1,0 +1,5 @@
+pub mod OidReading
+pub mod Oids
+pub mod PathReading
+pub mod Paths
+pub mod Resources
