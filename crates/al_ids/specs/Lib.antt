@@ -1,3 +1,4 @@
+pub mod Keys
 pub mod OidReading
 pub mod Oids
 pub mod PathReading
