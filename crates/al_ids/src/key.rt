@@ -3,6 +3,7 @@ ghost use Rattle.std.proofs.Common.{rules};
 ghost use Rattle.std.specs.Cmp.Rules.{comparing};
 ghost use Rattle.std.specs.Cmp.{partial_order_from_own_ties};
 ghost use Rattle.std.specs.Ordering.{as_partial_cmp};
+ghost use Rattle.std.specs.Prelude.{◌≡◌, ◌↔◌};
 
 use crate::resource::Resource;
 use al_base::{Copied, Text, TypeId};
@@ -58,3 +59,8 @@ impl Copied for AlarmKey {
         })
     }
 }
+
+/// Two keys compare as equal exactly where they are one key.
+pub fn equal_keys_are_one()
+    ensures { (a b : AlarmKey) → (key_cmp a b ≡ Ordering.Equal) ↔ (a ≡ b) }
+{}

@@ -5,6 +5,8 @@ pub mod key;
 mod oid;
 mod path;
 pub mod resource;
+#[cfg(test)]
+mod tests;
 
 pub use key::AlarmKey;
 pub use resource::{Kind, MAX_RESOURCE, Resource, ResourceFault};
