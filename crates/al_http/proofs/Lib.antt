@@ -1,8 +1,9 @@
 mod EscapeLemmas
-mod FrontLemmas
+pub mod FrontLemmas
 mod HeadLemmas
 mod MethodLemmas
 mod RequestLemmas
 mod RowLemmas
 mod ScanLemmas
 mod StreamLemmas
+pub mod StreamLaws

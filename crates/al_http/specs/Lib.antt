@@ -3,6 +3,7 @@ pub mod Desks
 pub mod ErrorRows
 pub mod Fronts
 pub mod Heads
+pub mod Laws
 pub mod Moves
 pub mod Phrases
 pub mod Requests

@@ -14,6 +14,7 @@ pub mod request;
 pub mod response;
 mod scan;
 mod sending;
+pub mod stream;
 
 pub use framer::{Framer, Stop};
 pub use request::HttpRequest;

@@ -1,0 +1,53 @@
+-- Laws of the request stream.
+use Rattle.std.specs.Prelude.{◌≡◌, ℕ, ◌<◌, List, [], ◌∷◌, ◌++◌, length, Option, Some, None, Ok, Err}
+use Rattle.std.specs.Io.KnownBytes.{Keeps}
+use Rattle.al_http.specs.declared.framer.Stop.TheVariants.{ReadFault}
+use Rattle.al_http.specs.declared.framer.Stop.TheVariants as stops
+use Rattle.al_http.specs.declared.request.HttpRequest.{HttpRequest}
+use Rattle.al_http.specs.Requests.{RequestMessage, FirstRequest}
+use Rattle.al_http.specs.Streams.{Ending, Ended, Limit, Cut, Rejected, RestEnds, request_limit, IsStream, HasGiven, IsWhole}
+use Rattle.al_http.specs.Shown.{message_of}
+use Rattle.al_http.specs.Moves.{Moves}
+
+-- bytes have one first request at most
+abbrev pub HasOneRequest : List ℕ → Type 0
+HasOneRequest bytes =
+    (a b : RequestMessage) (rest other : List ℕ) → FirstRequest bytes a rest → FirstRequest bytes b other → (a ≡ b) × (rest ≡ other)
+
+-- bytes that begin with a request end in no way
+abbrev pub GoesOnOrEnds : List ℕ → Type 0
+GoesOnOrEnds bytes = (request : RequestMessage) (rest : List ℕ) (ending : Ending) → FirstRequest bytes request rest → ¬ (RestEnds bytes ending)
+
+-- bytes end in one way at most
+abbrev pub HasOneEnd : List ℕ → Type 0
+HasOneEnd bytes = (a b : Ending) → RestEnds bytes a → RestEnds bytes b → a ≡ b
+
+-- bytes have one list of requests and one ending
+abbrev pub IsOneStream : List ℕ → Type 0
+IsOneStream bytes =
+    (requests others : List RequestMessage) (a b : Ending) → IsStream bytes requests a → IsStream bytes others b → (requests ≡ others) × (a ≡ b)
+
+-- A caller of next begins with no request and the whole stream,
+abbrev pub GivesNothingFirst : Type 0
+GivesNothingFirst = (start : Option (List ℕ)) → HasGiven start [] start
+
+-- has one more with each request that comes,
+abbrev pub GivesOneMore : Type 0
+GivesOneMore =
+    (start old new : Option (List ℕ)) (requests : List RequestMessage) (request : HttpRequest)
+    → HasGiven start requests old → Moves old new (Ok (Some request)) → HasGiven start (requests ++ message_of request ∷ []) new
+
+-- has the same after a read fault,
+abbrev pub StaysAtFault : Type 0
+StaysAtFault =
+    (start old new : Option (List ℕ)) (requests : List RequestMessage)
+    → HasGiven start requests old → Moves old new (Err ReadFault) → HasGiven start requests new
+
+-- and with any other answer, and at the limit, knows the whole stream.
+abbrev pub EndsWhole : Type 0
+EndsWhole =
+    (start old new : Option (List ℕ)) (requests : List RequestMessage) → HasGiven start requests old
+    → (length requests < request_limit → Moves old new (Ok None) → IsWhole start requests Ended)
+    × (length requests < request_limit → Moves old new (Err stops.Cut) → IsWhole start requests Cut)
+    × (length requests < request_limit → Moves old new (Err stops.Bad) → IsWhole start requests Rejected)
+    × (length requests ≡ request_limit → IsWhole start requests Limit)

@@ -1,0 +1,4 @@
+pub mod Conversations
+pub mod Exchanges
+pub mod Reports
+pub mod Words

@@ -1,0 +1,8 @@
+#![tactic(auto)]
+
+mod command;
+mod conversation;
+mod report;
+mod service;
+
+fn main() {}
