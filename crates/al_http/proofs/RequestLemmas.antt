@@ -30,18 +30,18 @@ first_request held more rest len size spans head reads within kept full =
       parts = three_parts more rest head.len size;
       is_head = rw block reads.is_head;
       frames = rw body reads.frames;
-      says = rw (block, reads.at.method, reads.at.path, reads.at.version, reads.at.fields) refl
+      says = rw (block, reads.at.method, reads.at.path, reads.at.version, reads.at.fields) refl;
     }
 
 -- the block at the front, which is no head that frames a body, is refused
 pub bad_block : (held more : List ℕ) (len : ℕ) → IsBlock (take len held) → RefusesBlock (take len held) → IsBad (held ++ more)
 bad_block held more len is_block refuses = inr (record {
-    text = take len held;
-    rest = drop len held ++ more;
-    parts = ap (λ t. t ++ more) (sym (take-append-drop len held)) ∙ append_assoc (take len held) (drop len held) more;
-    is_block = is_block;
-    refused = refuses
-  })
+  text = take len held;
+  rest = drop len held ++ more;
+  parts = ap (λ t. t ++ more) (sym (take-append-drop len held)) ∙ append_assoc (take len held) (drop len held) more;
+  is_block = is_block;
+  refused = refuses;
+})
 
 -- the head that was read lacks some of its body
 pub cut_body : (held more : List ℕ) (len size : ℕ) (spans : List HeaderSpan) (head : RequestSpans) → ReadsHead (take len held) spans head size
@@ -57,5 +57,5 @@ cut_body held more len size spans head reads within kept short =
       parts = sym (take-append-drop len more);
       is_head = rw block reads.is_head;
       frames = reads.frames;
-      lacks = omega (arith, length-drop len more)
+      lacks = omega (arith, length-drop len more);
     })

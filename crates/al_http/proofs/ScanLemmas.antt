@@ -40,11 +40,11 @@ block_here xs b before here = record { ends = here; shortest = λ front back. st
 ends_apart : (xs : List ℕ) (b : ℕ) → EndsInEmptyLine (xs ++ b ∷ [])
     → (b ≡ line_feed) × (EndsWith xs (line_feed ∷ []) ⊎ EndsWith xs (line_feed ∷ carriage_return ∷ []))
 ends_apart xs b ends = elim ends.empty_line [
-    inl e ↦ (let at = same_from_push xs (ends.front ++ line_feed ∷ []) b line_feed (ends.parts ∙ ap (λ t. ends.front ++ t) e ∙ sym (append_assoc ends.front _ _)) in
+  | inl e ↦ (let at = same_from_push xs (ends.front ++ line_feed ∷ []) b line_feed (ends.parts ∙ ap (λ t. ends.front ++ t) e ∙ sym (append_assoc ends.front _ _)) in
       (at.1, inl (record { front = ends.front; parts = at.0; some_line = ends.some_line })))
   | inr e ↦ (let at = same_from_push xs (ends.front ++ line_feed ∷ carriage_return ∷ []) b line_feed (ends.parts ∙ ap (λ t. ends.front ++ t) e ∙ sym (append_assoc ends.front _ _)) in
       (at.1, inr (record { front = ends.front; parts = at.0; some_line = ends.some_line })))
-  ]
+]
 
 -- an end with text before it has text
 line_before : (xs end : List ℕ) → EndsWith xs end → HasLineByte xs
@@ -75,10 +75,12 @@ seen_line Return xs shows none = cc (line_before xs _ shows)
 
 pub after_nothing : (xs : List ℕ) (b : ℕ) → is_line_byte b ≡ false → IsAfter Nothing xs → IsAfter Nothing (xs ++ b ∷ [])
 after_nothing xs b blank seen = record {
-    no_block = no_block_more xs b seen.no_block (λ ends. elim (ends_apart xs b ends).1 [
-        inl e ↦ absurd (cc (line_before xs _ e, seen.shows)) | inr e ↦ absurd (cc (line_before xs _ e, seen.shows)) ]);
-    shows = rw (list_any-append is_line_byte xs (b ∷ []), seen.shows, blank) refl
-  }
+  no_block = no_block_more xs b seen.no_block (λ ends. elim (ends_apart xs b ends).1 [
+    | inl e ↦ absurd (cc (line_before xs _ e, seen.shows))
+    | inr e ↦ absurd (cc (line_before xs _ e, seen.shows))
+  ]);
+  shows = rw (list_any-append is_line_byte xs (b ∷ []), seen.shows, blank) refl;
+}
 
 -- with no LF there is no end
 no_end : (xs : List ℕ) (b : ℕ) → b ≢ line_feed → ¬ (EndsInEmptyLine (xs ++ b ∷ []))
@@ -86,9 +88,9 @@ no_end xs b other ends = other (ends_apart xs b ends).0
 
 pub after_text : (seen : Seen) (xs : List ℕ) (b : ℕ) → b ≢ line_feed → b ≢ carriage_return → is_line_byte b ≡ true → IsAfter seen xs → IsAfter Text (xs ++ b ∷ [])
 after_text seen xs b feed return line before = record {
-    no_block = no_block_more xs b before.no_block (no_end xs b feed);
-    shows = (rw (list_any-append is_line_byte xs (b ∷ []), line) (or_true _), (λ e. feed (last_byte xs b _ e)), (λ e. return (last_bytes xs b _ _ e).0))
-  }
+  no_block = no_block_more xs b before.no_block (no_end xs b feed);
+  shows = (rw (list_any-append is_line_byte xs (b ∷ []), line) (or_true _), (λ e. feed (last_byte xs b _ e)), (λ e. return (last_bytes xs b _ _ e).0));
+}
   where
     or_true : (a : Bool) → (a || (true || false)) ≡ true
     or_true true = refl
@@ -96,26 +98,28 @@ after_text seen xs b feed return line before = record {
 
 pub after_line_feed : (xs : List ℕ) → IsAfter Text xs → IsAfter LineFeed (xs ++ line_feed ∷ [])
 after_line_feed xs before = record {
-    no_block = no_block_more xs line_feed before.no_block (λ ends. elim (ends_apart xs line_feed ends).1 [
-        inl e ↦ before.shows.1 e | inr e ↦ before.shows.2 e ]);
-    shows = record { front = xs; parts = refl; some_line = before.shows.0 }
-  }
+  no_block = no_block_more xs line_feed before.no_block (λ ends. elim (ends_apart xs line_feed ends).1 [
+    | inl e ↦ before.shows.1 e
+    | inr e ↦ before.shows.2 e
+  ]);
+  shows = record { front = xs; parts = refl; some_line = before.shows.0 };
+}
 
 no_feed : carriage_return ≢ line_feed
 no_feed e = cc
 
 pub after_return : (xs : List ℕ) → IsAfter LineFeed xs → IsAfter Return (xs ++ carriage_return ∷ [])
 after_return xs before = record {
-    no_block = no_block_more xs carriage_return before.no_block (no_end xs carriage_return no_feed);
-    shows = record { front = before.shows.front; parts = rw before.shows.parts (append_assoc before.shows.front _ _); some_line = before.shows.some_line }
-  }
+  no_block = no_block_more xs carriage_return before.no_block (no_end xs carriage_return no_feed);
+  shows = record { front = before.shows.front; parts = rw before.shows.parts (append_assoc before.shows.front _ _); some_line = before.shows.some_line };
+}
 
 -- a CR that is in no line's end
 lone_return : (xs : List ℕ) → HasLineByte xs → ¬ (EndsWith xs (line_feed ∷ [])) → HoldsNoBlock xs → IsAfter Text (xs ++ carriage_return ∷ [])
 lone_return xs line no_line no_block = record {
-    no_block = no_block_more xs carriage_return no_block (no_end xs carriage_return no_feed);
-    shows = (line_kept xs carriage_return line, (λ e. no_feed (last_byte xs carriage_return line_feed e)), (λ e. no_line (last_bytes xs carriage_return _ _ e).1))
-  }
+  no_block = no_block_more xs carriage_return no_block (no_end xs carriage_return no_feed);
+  shows = (line_kept xs carriage_return line, (λ e. no_feed (last_byte xs carriage_return line_feed e)), (λ e. no_line (last_bytes xs carriage_return _ _ e).1));
+}
 
 pub after_text_return : (xs : List ℕ) → IsAfter Text xs → IsAfter Text (xs ++ carriage_return ∷ [])
 after_text_return xs before = lone_return xs before.shows.0 before.shows.1 before.no_block
@@ -128,13 +132,21 @@ after_two_returns xs before = lone_return xs (line_before xs _ before.shows) (λ
 
 pub ends_line_feed : (xs : List ℕ) → IsAfter LineFeed xs → IsBlock (xs ++ line_feed ∷ [])
 ends_line_feed xs before = block_here xs line_feed before.no_block (record {
-    front = before.shows.front; end = line_feed ∷ line_feed ∷ [];
-    parts = rw before.shows.parts (append_assoc before.shows.front _ _); some_line = before.shows.some_line; empty_line = inl refl })
+  front = before.shows.front;
+  end = line_feed ∷ line_feed ∷ [];
+  parts = rw before.shows.parts (append_assoc before.shows.front _ _);
+  some_line = before.shows.some_line;
+  empty_line = inl refl;
+})
 
 pub ends_return : (xs : List ℕ) → IsAfter Return xs → IsBlock (xs ++ line_feed ∷ [])
 ends_return xs before = block_here xs line_feed before.no_block (record {
-    front = before.shows.front; end = line_feed ∷ carriage_return ∷ line_feed ∷ [];
-    parts = rw before.shows.parts (append_assoc before.shows.front _ _); some_line = before.shows.some_line; empty_line = inr refl })
+  front = before.shows.front;
+  end = line_feed ∷ carriage_return ∷ line_feed ∷ [];
+  parts = rw before.shows.parts (append_assoc before.shows.front _ _);
+  some_line = before.shows.some_line;
+  empty_line = inr refl;
+})
 
 nothing_empty : (xs ys : List ℕ) → [] ≡ xs ++ ys → HasLineByte xs → ⊥
 nothing_empty [] ys e some = cc (some)

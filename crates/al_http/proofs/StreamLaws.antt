@@ -22,7 +22,9 @@ fronts : (a b r q : List ℕ) → a ++ r ≡ b ++ q → ((m : List ℕ) × (b �
 fronts [] b r q e = inl (b, refl)
 fronts (x ∷ a) [] r q e = inr (x ∷ a, refl)
 fronts (x ∷ a) (y ∷ b) r q e = elim (fronts a b r q (cc)) [
-    inl found ↦ inl (found.0, cc (found.1)) | inr found ↦ inr (found.0, cc (found.1)) ]
+  | inl found ↦ inl (found.0, cc (found.1))
+  | inr found ↦ inr (found.0, cc (found.1))
+]
 
 no_more : (a m : List ℕ) → m ≡ [] → a ≡ a ++ m
 no_more a m none = rw none (sym (append-nil a))
@@ -82,7 +84,7 @@ long_holds_none : (bytes text rest : List ℕ) → IsTooLong bytes → bytes ≡
 long_holds_none bytes text rest long parts block short =
     let size : length text + (16384 - length text) ≡ 16384 = omega arith in
     none_holds_none (take 16384 bytes) text (take (16384 - length text) rest) long.no_block
-      (rw parts (ap (λ n. take n (text ++ rest)) (sym size) ∙ take-append-add text rest (16384 - length text))) block
+    (rw parts (ap (λ n. take n (text ++ rest)) (sym size) ∙ take-append-add text rest (16384 - length text))) block
 
 -- the head of a first request that lacks some of its body
 lacks_none : (bytes : List ℕ) (request : RequestMessage) (rest : List ℕ) → FirstRequest bytes request rest → LacksBody bytes → ⊥
@@ -152,9 +154,9 @@ cuts_apart bytes (q ∷ requests) [] rest left a b = inr (inr (record { shorter 
 cuts_apart bytes (q ∷ requests) (r ∷ others) rest left a b =
     let one = first_unique bytes q r a.0 b.0 a.1 b.1 in
     elim (cuts_apart b.0 requests others rest left (rw one.1 at a.2) b.2) [
-      inl same ↦ inl (cc (one.0, same.0), same.1)
-    | inr (inl goes) ↦ inr (inl (further_more q r requests others rest goes))
-    | inr (inr goes) ↦ inr (inr (further_more r q others requests left goes))
+      | inl same ↦ inl (cc (one.0, same.0), same.1)
+      | inr (inl goes) ↦ inr (inl (further_more q r requests others rest goes))
+      | inr (inr goes) ↦ inr (inr (further_more r q others requests left goes))
     ]
 
 few : (count : ℕ) (rest : List ℕ) (ending : Ending) → EndsAs count rest ending → count ≤ request_limit
@@ -185,10 +187,10 @@ same_ends count rest Rejected b first second = one_end rest Rejected b first.1 (
 
 pub one_stream : (bytes : List ℕ) (requests others : List RequestMessage) (a b : Ending) → IsStream bytes requests a → IsStream bytes others b → (requests ≡ others) × (a ≡ b)
 one_stream bytes requests others a b first second = elim (cuts_apart bytes requests others first.rest second.rest first.cuts second.cuts) [
-    inl same ↦ (same.0, same_ends (length others) second.rest a b (rw (same.0, same.1) at first.ends) second.ends)
+  | inl same ↦ (same.0, same_ends (length others) second.rest a b (rw (same.0, same.1) at first.ends) second.ends)
   | inr (inl goes) ↦ absurd (not_further requests others first.rest second.rest a b first.ends second.ends goes)
   | inr (inr goes) ↦ absurd (not_further others requests second.rest first.rest b a second.ends first.ends goes)
-  ]
+]
 
 -- one more request behind those so far
 cuts_more : (bytes : List ℕ) (requests : List RequestMessage) (rest : List ℕ) (request : RequestMessage) (after : List ℕ)

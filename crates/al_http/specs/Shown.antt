@@ -14,7 +14,7 @@ message_at block headers head body =
       target = span_bytes block head.path;
       minor = head.version;
       fields = map (header_bytes block) headers;
-      body = body
+      body = body;
     }
 
 -- the request that the value shows

@@ -83,3 +83,6 @@ impl Framer {
         }
     }
 }
+
+#[cfg(test)]
+mod tests;

@@ -9,8 +9,7 @@ pub fn stream_is_unique()
     ensures no_end { (bytes : List ℕ) → GoesOnOrEnds bytes }
     ensures one_end { (bytes : List ℕ) → HasOneEnd bytes }
     ensures one_stream { (bytes : List ℕ) → IsOneStream bytes }
-{
-}
+{}
 
 /// The calls of one framer on one source are a run over its stream: the requests so far and what is left, until it ends.
 pub fn calls_are_a_run()
@@ -18,5 +17,4 @@ pub fn calls_are_a_run()
     ensures goes_on { GivesOneMore }
     ensures stays { StaysAtFault }
     ensures ends { EndsWhole }
-{
-}
+{}

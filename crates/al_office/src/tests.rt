@@ -11,7 +11,7 @@ const MAJOR: Status = Status::Active(Severity::Major);
 
 const MINOR: Status = Status::Active(Severity::Minor);
 
-const LAST_STAMP: u64 = 253_402_300_799_999;
+const LAST_STAMP: u64 = 253_402_300_799_999; // 9999-12-31T23:59:59.999Z
 
 fn report(alloc: Global, resource: &[u8], status: Status, text: &[u8]) -> Result<Request, TextFault>
     requires some { 0 < length resource.now }
@@ -61,9 +61,8 @@ fn answers_reports_by_what_stands(rt: HostRuntime) -> Result<(), Fail> {
         assert_eq!(rt; office.change(9, request, now), answer, "at {reading}");
         assert_eq!(rt; office.len(), entries, "at {reading}");
         assert_eq!(rt; office.number_of_alarms(), alarms, "at {reading}");
-        let last = office
-            .entry(office.len() - 1)
-            .expect(&rt, "there is an entry");
+        let place = office.len().saturating_sub(1);
+        let last = office.entry(place).expect(&rt, "there is an entry");
         assert_eq!(rt; last.time.ms(), time, "at {reading}");
     }
     Ok(())

@@ -1,5 +1,5 @@
 -- Fronts of lists, and values that end at a quote.
-use Rattle.std.proofs.Common.{◌≡◌, ◌≢◌, ℕ, true, false, Option, None, Some, IfNone, List, [], ◌∷◌, ◌++◌, length, take, drop, slice_get, sym, ap, refl, ◌∙◌}
+use Rattle.std.proofs.Common.{◌≡◌, ◌≢◌, ℕ, true, false, Option, None, Some, IfNone, List, [], ◌∷◌, ◌++◌, length, take, drop, sym, ap, refl, ◌∙◌}
 use Rattle.std.specs.List.{AllByRecursion}
 use Rattle.std.specs.Cmp.Lexicographic.{pointwise, same_text, other_text}
 use Rattle.std.proofs.Common.{nat_eq}

@@ -1,7 +1,7 @@
 -- Turns one after the other: what they were asked, what they wrote, and when.
 use Rattle.std.proofs.lemmas.List.{append-nil, length-append, length-map, map-append}
-use Rattle.std.proofs.Common.{◌≡◌, ℕ, ◌+◌, ◌==◌, Option, None, Some, IfSome, Result, Ok, Err, OnOk, OnErr, MatchResult, List, [], ◌∷◌, ◌++◌, length, map, All, refl, sym, ap, ◌∙◌, append_assoc, add-zero, suc, true, option_map, ◌<◌, ◌⊎◌, inl, inr, arith}
-use Rattle.std.specs.Io.KnownBytes.{Appends, Keeps}
+use Rattle.std.proofs.Common.{◌≡◌, ℕ, ◌+◌, ◌==◌, Option, None, Some, IfSome, Result, Ok, Err, OnOk, OnErr, MatchResult, List, [], ◌∷◌, ◌++◌, length, map, refl, sym, ap, ◌∙◌, append_assoc, add-zero, suc, true, option_map, ◌<◌, ◌⊎◌, inl, inr, arith}
+use Rattle.std.specs.Io.KnownBytes.{Appends}
 use Rattle.al_base.specs.Readings.{Readings, next_reading, after_reading}
 use Rattle.al_base.specs.declared.outside.WriteFault.{WriteFault}
 use Rattle.al_http.proofs.FrontLemmas.{appends_more, front_longer, front_more}
@@ -13,9 +13,9 @@ use Rattle.al_http.specs.declared.framer.Stop.TheVariants as stops
 use Rattle.al_http.specs.declared.request.HttpRequest.{HttpRequest}
 use Rattle.alarmd.specs.declared.conversation.Cause.{Cause}
 use Rattle.alarmd.specs.declared.conversation.Cause.TheVariants as causes
-use Rattle.al_http.specs.Requests.{RequestMessage, FirstRequest}
+use Rattle.al_http.specs.Requests.{RequestMessage}
 use Rattle.al_http.specs.Responses.{response_text, framing_response}
-use Rattle.al_http.specs.Streams.{Cuts, HasGiven, request_limit}
+use Rattle.al_http.specs.Streams.{HasGiven, request_limit}
 use Rattle.al_http.specs.declared.response.Response.{Response}
 use Rattle.al_model.specs.declared.entry.Entry.{Entry}
 use Rattle.alarmd.specs.Exchanges.{Turn, IsTurn, IsExchange}
@@ -73,6 +73,7 @@ so_far_begins answers origin before input output clock =
     appends_nothing : (output : Option (List ℕ)) → Appends output output []
     appends_nothing None = tt
     appends_nothing (Some bytes) = sym (append-nil bytes)
+
     gave_nothing : (clock : Option Readings) → GaveKnown clock [] clock
     gave_nothing None = tt
     gave_nothing (Some readings) = refl
@@ -109,7 +110,7 @@ so_far_more answers origin before mid after input left new_left o p q k m n coun
       requests = given_turn input left new_left s.turns t.turn request s.requests moves t.request_is;
       responses = rw (text_is s.turns t.turn count s.counted) (appends_more o p q (texts_of s.turns) (response_text t.turn.response (count + 1 == request_limit)) s.responses t.response);
       readings = gave_turn k m n s.turns t.turn s.readings t.reading;
-      counted = omega (arith, length-append s.turns (t.turn ∷ []), s.counted)
+      counted = omega (arith, length-append s.turns (t.turn ∷ []), s.counted);
     }
 
 -- what was given of the input is how it begins
@@ -126,7 +127,7 @@ ends_by_write_fault answers origin before mid after input left new_left o p q k 
       exchange = exchange_more answers origin before s.turns mid t.turn after s.exchange t.taken t.grown;
       requests = begins_with input new_left (requests_of (s.turns ++ t.turn ∷ [])) (given_turn input left new_left s.turns t.turn request s.requests moves t.request_is);
       responses = front_longer o q (texts_of (s.turns ++ t.turn ∷ [])) (response_text framing_response true) (rw (text_is s.turns t.turn count s.counted) (front_more o p q (texts_of s.turns) (response_text t.turn.response (count + 1 == request_limit)) s.responses t.response));
-      readings = gave_turn k m n s.turns t.turn s.readings t.reading
+      readings = gave_turn k m n s.turns t.turn s.readings t.reading;
     }
 
 few_requests : (turns : List Turn) (count : ℕ) → length turns ≡ count → count < request_limit → length (requests_of turns) < request_limit

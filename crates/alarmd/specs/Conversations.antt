@@ -1,5 +1,5 @@
 -- The conversation: an exchange over the bytes of a source and a sink.
-use Rattle.std.specs.Prelude.{◌≡◌, ℕ, ◌+◌, ◌==◌, Option, Some, None, IfSome, List, [], ◌∷◌, ◌++◌, map, true, ⊤, Result, Ok, Err, MatchResult}
+use Rattle.std.specs.Prelude.{◌≡◌, ℕ, ◌+◌, ◌==◌, Option, Some, None, IfSome, List, [], ◌∷◌, ◌++◌, map, true, ⊤, Result, MatchResult}
 use Rattle.std.specs.Io.KnownBytes.{Appends}
 use Rattle.al_base.specs.Readings.{Readings, next_reading, after_reading}
 use Rattle.al_model.specs.declared.entry.Entry.{Entry}

@@ -24,14 +24,18 @@ abbrev pub report_text : List ℕ → List ℕ → List ℕ → List ℕ
 report_text text status resource =
     codes "{\"alarmd:input\":{\"alarm-text\":\"" ++ (text ++ status_text status resource)
 
--- The body is the report of this resource, status and text, and they are within their limits.
+-- a resource of 1 to 512 plain bytes, and a text of at most 255
+abbrev pub IsPlainResource : List ℕ → Type 0
+IsPlainResource resource = (1 ≤ length resource) × (length resource ≤ 512) × All IsPlain resource
+
+abbrev pub IsPlainText : List ℕ → Type 0
+IsPlainText text = (length text ≤ 255) × All IsPlain text
+
+-- The body is the report of this resource, status and text.
 pub record Spells (body resource : List ℕ) (status : Status) (text : List ℕ) : Type 0 where
   pub spelled : body ≡ report_text text (status_name status) resource
-  pub some_resource : 1 ≤ length resource
-  pub short_resource : length resource ≤ 512
-  pub plain_resource : All IsPlain resource
-  pub short_text : length text ≤ 255
-  pub plain_text : All IsPlain text
+  pub plain_resource : IsPlainResource resource
+  pub plain_text : IsPlainText text
 
 abbrev pub IsReport : List ℕ → Request → Type 0
 IsReport body (Report resource status text) = Spells body resource status text

@@ -3,7 +3,7 @@
 ghost use Rattle.std.specs.Prelude.{◌≡◌, ◌≢◌, ◌↔◌, ◌≤◌, ◌∷◌, ◌++◌, ℕ, List, All, IfOk, IfNone, IfSome, IsTrue, length};
 ghost use Rattle.al_model.specs.Limits.{IsRequestWithin};
 ghost use Rattle.al_model.specs.declared.request.Request.{Request};
-ghost use Rattle.alarmd.specs.Reports.{IsReport, IsPlain, HasNoQuote, BeginsWithQuote, IsMadeOf, resource_text, status_text};
+ghost use Rattle.alarmd.specs.Reports.{IsReport, IsPlain, HasNoQuote, BeginsWithQuote, IsMadeOf, IsPlainResource, IsPlainText, resource_text, status_text};
 
 use al_base::{Status, Text, TextFault};
 use al_model::Request;
@@ -25,6 +25,12 @@ const BEFORE_STATUS: &[u8] = b"\",\"alarm-type-id\":\"ex:link\",\"perceived-seve
 const BEFORE_RESOURCE: &[u8] = b"\",\"resource\":\"";
 
 const AT_THE_END: &[u8] = b"\"}}";
+
+/// The longest resource, in bytes.
+const RESOURCE_LIMIT: usize = 512;
+
+/// The longest alarm text, in bytes.
+const TEXT_LIMIT: usize = 255;
 
 /// The values of a report's members.
 #[derive(Clone, Copy)]
@@ -126,4 +132,55 @@ fn are_plain(bytes: &[u8]) -> bool
     ensures { IsTrue result ↔ All IsPlain bytes.now }
 {
     bytes.iter().all(|byte| is_plain(*byte))
+}
+
+fn is_resource(bytes: &[u8]) -> bool
+    ensures { IsTrue result ↔ IsPlainResource bytes.now }
+{
+    !bytes.is_empty() && bytes.len() <= RESOURCE_LIMIT && are_plain(bytes)
+}
+
+fn is_alarm_text(bytes: &[u8]) -> bool
+    ensures { IsTrue result ↔ IsPlainText bytes.now }
+{
+    bytes.len() <= TEXT_LIMIT && are_plain(bytes)
+}
+
+/// A text of plain bytes, which are always text.
+fn plain_text(alloc: Global, bytes: &[u8]) -> Result<Text, ReportFault>
+    requires { All IsPlain bytes.now }
+    ensures text { IfOk result (λ text. text ≡ bytes.now) }
+    ensures memory { result ≢ Err ReportFault.Form }
+{
+    match Text::read(alloc, bytes) {
+        Ok(text) => Ok(text),
+        Err(TextFault::NotUtf8) => Err(ReportFault::Form),
+        Err(TextFault::Memory) => Err(ReportFault::Memory),
+    }
+}
+
+/// The report that a body is: its one text, with the members in this order and nothing beside them.
+pub fn read_report(alloc: Global, body: &[u8]) -> Result<Request, ReportFault>
+    ensures report { IfOk result (IsReport body.now) }
+    ensures only { IfOk result (λ request. (other : Request) → IsReport body.now other → other ≡ request) }
+    ensures within { IfOk result IsRequestWithin }
+    ensures form { result ≡ Err ReportFault.Form → (request : Request) → ¬ (IsReport body.now request) }
+{
+    let Some(parts) = parts_of(body) else {
+        return Err(ReportFault::Form);
+    };
+    let Some(status) = Status::read(parts.status) else {
+        return Err(ReportFault::Form);
+    };
+    if !is_resource(parts.resource) {
+        return Err(ReportFault::Form);
+    }
+    if !is_alarm_text(parts.text) {
+        return Err(ReportFault::Form);
+    }
+    Ok(Request::Report {
+        resource: plain_text(alloc, parts.resource)?,
+        status,
+        text: plain_text(alloc, parts.text)?,
+    })
 }

@@ -10,7 +10,7 @@ returns-in_default-clause-size c =
     record {
       plain = no_values _ (no_value _ _ c.if-is_some.ensures c.value_at.ensures);
       stated = rw (no_values (values_of (codes "content-length") fields) (sym c.in_default.ensures)) refl;
-      fits = lit≤ tt
+      fits = lit≤ tt;
     }
 
 pub returns-in-Some-read_number-clause-size : goal.returns-in-Some-read_number-clause-size
@@ -20,5 +20,5 @@ returns-in-Some-read_number-clause-size c =
     record {
       plain = no_values _ (no_value _ _ c.if-is_some.ensures c.value_at.ensures);
       stated = rw (one_value (values_of (codes "content-length") fields) c.in-Some.value.now (sym c.in-Some.ensures) other) (sym c.in-Some-read_number.ensures);
-      fits = c.if-number-le-MAX_BODY.true
+      fits = c.if-number-le-MAX_BODY.true;
     }

@@ -11,6 +11,9 @@ pub returns-clause-stays : goal.returns-clause-stays
 returns-clause-stays c = given_still
 
 pub returns-clause-ends : goal.returns-clause-ends
-returns-clause-ends c = λ start old new requests given.
-    (λ few. ends_ended start old new requests given few, λ few. ends_cut start old new requests given few,
-     λ few. ends_rejected start old new requests given few, ends_limit start old requests given)
+returns-clause-ends c = λ start old new requests given. (
+  λ few. ends_ended start old new requests given few,
+  λ few. ends_cut start old new requests given few,
+  λ few. ends_rejected start old new requests given few,
+  ends_limit start old requests given,
+)

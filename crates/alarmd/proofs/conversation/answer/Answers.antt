@@ -14,7 +14,7 @@ returns-in-Ok-clause-turn g c =
       grown = a.grown;
       request_is = refl;
       reading_is = refl;
-      response_is = refl
+      response_is = refl;
     }
 
 pub returns-in-Err-clause-turn : goal.returns-in-Err-clause-turn
@@ -26,5 +26,5 @@ returns-in-Err-clause-turn g c =
       grown = rw append-nil c.in-Err.ensures.unanswered;
       request_is = refl;
       reading_is = refl;
-      response_is = refl
+      response_is = refl;
     }

@@ -1,4 +1,4 @@
-use Rattle.std.proofs.Common.{refl, codes, sym, ◌∙◌}
+use Rattle.std.proofs.Common.{refl, codes}
 use Rattle.alarmd.specs.Reports.{resource_text}
 use Rattle.alarmd.proofs.Cutting.{one_cut}
 use Rattle.alarmd.proofs.report.status_in.Goals as goal

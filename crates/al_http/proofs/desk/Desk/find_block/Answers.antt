@@ -22,9 +22,11 @@ returns-in-Ends-clause-finds g c =
     let held = held_bytes c.reading.self in
     let looks = rw c.held.ensures at (c.in-Ends.ensures _ c.reading.invariant.seen) in
     let part : length (take (c.min-end.result - c.reading.done) (drop c.reading.done held)) ≡ min (c.min-end.result - c.reading.done) (length (drop c.reading.done held)) = length-take _ (drop c.reading.done held) in
-    let size = length-drop c.reading.done held in
-    (omega (arith, looks.0, c.len.ensures, c.min-end.ensures), omega (arith, looks.0, c.len.ensures, c.min-end.ensures),
-     rw (take_on held c.reading.done c.min-end.result c.in-Ends.count looks.0) at looks.1)
+    let size = length-drop c.reading.done held in (
+      omega (arith, looks.0, c.len.ensures, c.min-end.ensures),
+      omega (arith, looks.0, c.len.ensures, c.min-end.ensures),
+      rw (take_on held c.reading.done c.min-end.result c.in-Ends.count looks.0) at looks.1,
+    )
 
 pub returns-then-done-eq-MAX_HEAD-clause-finds : goal.returns-then-done-eq-MAX_HEAD-clause-finds
 returns-then-done-eq-MAX_HEAD-clause-finds g c =
@@ -34,7 +36,7 @@ returns-then-done-eq-MAX_HEAD-clause-finds g c =
     let long : 16384 ≤ length held = omega arith in
     kept_has IsBad _ _ c.reading.invariant.stream (stream_all IsBad held _ (λ more. inl (record {
       long = omega (arith, length-append held more);
-      no_block = rw (take-append-le 16384 held more long) seen.no_block
+      no_block = rw (take-append-le 16384 held more long) seen.no_block;
     })))
 
 pub reading-preserved : goal.reading-preserved

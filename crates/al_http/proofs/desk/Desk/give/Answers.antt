@@ -13,5 +13,7 @@ pub returns-clause-message : goal.returns-clause-message
 returns-clause-message c =
     let desk = c.args.self.now in
     let fits : c.args.head.len ≤ length (held_bytes desk) = omega arith in
-    rw (front_part desk.bytes.items desk.start desk.filled c.args.head.len fits,
-        mid_part desk.bytes.items desk.start desk.filled c.args.head.len c.args.size c.requires.fits) refl
+    rw (
+      front_part desk.bytes.items desk.start desk.filled c.args.head.len fits,
+      mid_part desk.bytes.items desk.start desk.filled c.args.head.len c.args.size c.requires.fits,
+    ) refl

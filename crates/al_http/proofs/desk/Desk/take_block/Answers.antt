@@ -9,9 +9,10 @@ use Rattle.al_http.proofs.desk.Desk.take_block.Goals as goal
 
 pub returns-in_default-clause-takes : goal.returns-in_default-clause-takes
 returns-in_default-clause-takes g c =
-    let held = held_bytes c.args.self.now in
-    (rw c.read_block.ensures.held (keeps_same _),
-     stream_all IsBad held _ (λ more. bad_block held more c.args.len c.requires.is_block c.in_default.ensures.refuses))
+    let held = held_bytes c.args.self.now in (
+      rw c.read_block.ensures.held (keeps_same _),
+      stream_all IsBad held _ (λ more. bad_block held more c.args.len c.requires.is_block c.in_default.ensures.refuses),
+    )
 
 pub returns-in-Ok-true-clause-takes : goal.returns-in-Ok-true-clause-takes
 returns-in-Ok-true-clause-takes g c =
@@ -19,10 +20,11 @@ returns-in-Ok-true-clause-takes g c =
     let more = held_bytes c.read_up_to.new.self in
     let kept = rw c.read_block.ensures.held at c.read_up_to.ensures.kept in
     let stream = rw c.read_block.ensures.held at c.read_up_to.ensures.stream in
-    let full : c.args.len + c.in-Some.size ≤ length more = c.read_up_to.ensures.full (cc) in
-    (c.give.ensures.place,
-     rw (c.give.ensures.held, c.give.ensures.message, c.read_up_to.ensures.spans) (takes_kept _ more _ _ _ stream
-       (λ rest. first_request held more rest c.args.len c.in-Some.size _ c.in-Some.head c.in-Some.ensures.reads c.requires.within kept full)))
+    let full : c.args.len + c.in-Some.size ≤ length more = c.read_up_to.ensures.full (cc) in (
+      c.give.ensures.place,
+      rw (c.give.ensures.held, c.give.ensures.message, c.read_up_to.ensures.spans) (takes_kept _ more _ _ _ stream
+          (λ rest. first_request held more rest c.args.len c.in-Some.size _ c.in-Some.head c.in-Some.ensures.reads c.requires.within kept full)),
+    )
 
 pub returns-in-Ok-false-clause-takes : goal.returns-in-Ok-false-clause-takes
 returns-in-Ok-false-clause-takes g c =

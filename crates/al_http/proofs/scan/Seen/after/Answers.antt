@@ -12,8 +12,9 @@ returns-in-Text c = rw (c.in-Text.is, c.in-10.is) (λ front before. after_line_f
 
 pub returns-in-LineFeed : goal.returns-in-LineFeed
 returns-in-LineFeed c = rw c.in-10.is (elim c.in-LineFeed.is [
-    inl e ↦ (λ front before. ends_line_feed front (rw e at before))
-  | inr e ↦ (λ front before. ends_return front (rw e at before)) ])
+  | inl e ↦ (λ front before. ends_line_feed front (rw e at before))
+  | inr e ↦ (λ front before. ends_return front (rw e at before))
+])
 
 pub returns-in-Nothing-self : goal.returns-in-Nothing-self
 returns-in-Nothing-self c = rw (c.in-Nothing-self.is, c.in-13.is) (λ front before. after_nothing front 13 refl before)
@@ -23,8 +24,9 @@ returns-in-LineFeed-self c = rw (c.in-LineFeed-self.is, c.in-13.is) (λ front be
 
 pub returns-in-Text-self : goal.returns-in-Text-self
 returns-in-Text-self c = rw c.in-13.is (elim c.in-Text-self.is [
-    inl e ↦ (λ front before. after_text_return front (rw e at before))
-  | inr e ↦ (λ front before. after_two_returns front (rw e at before)) ])
+  | inl e ↦ (λ front before. after_text_return front (rw e at before))
+  | inr e ↦ (λ front before. after_two_returns front (rw e at before))
+])
 
 pub returns-in_default : goal.returns-in_default
 returns-in_default c =
