@@ -377,7 +377,10 @@ mod tests {
     fn clock_repeats_its_last_reading(rt: HostRuntime) -> Result<(), Fail> {
         let mut clock = MemClock::new(rt.alloc(), &[Stamp::LAST, Stamp::EPOCH])?;
         let readings = now_times(rt.alloc(), &mut clock, 3)?;
-        assert_eq!(rt; readings.as_slice(), [Stamp::LAST, Stamp::EPOCH, Stamp::EPOCH].as_slice());
+        assert_eq!(rt;
+            readings.as_slice(),
+            [Stamp::LAST, Stamp::EPOCH, Stamp::EPOCH].as_slice()
+        );
         let mut empty = MemClock::new(rt.alloc(), &[])?;
         assert_eq!(rt; empty.now(), Stamp::EPOCH);
         Ok(())

@@ -132,3 +132,7 @@ front_behind a b first second xs ys zs pushed front =
     let same : (second ++ ys) ++ zs ≡ first ++ ((xs ++ ys) ++ zs) =
     ap (λ (text : List ℕ). (text ++ ys) ++ zs) pushed ∙ simp append_assoc in
     rw (← same) longer
+
+pub on_fault : {T E : Type 0} (result : Result T E) (a b : Option (List ℕ)) (xs : List ℕ) → AppendsFront a b xs → OnErr result (AppendsFront a b xs)
+on_fault (Ok value) a b xs front = tt
+on_fault (Err fault) a b xs front = front

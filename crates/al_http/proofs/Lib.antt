@@ -1,5 +1,5 @@
 mod EscapeLemmas
-mod FrontLemmas
+pub mod FrontLemmas
 mod HeadLemmas
 mod MethodLemmas
 mod RequestLemmas

@@ -1,6 +1,6 @@
 //! Bytes that go to a sink whole.
 
-ghost use Rattle.std.specs.Prelude.{◌≡◌, ◌+◌, ◌≤◌, ◌++◌, [], length, if◌then◌else◌, OnOk, OnErr};
+ghost use Rattle.std.specs.Prelude.{◌≡◌, ◌+◌, ◌≤◌, ◌++◌, [], length, if◌then◌else◌, IfOk, OnOk, OnErr};
 ghost use Rattle.std.specs.Io.KnownBytes.{Appends};
 ghost use Rattle.al_base.specs.Outside.{Rose};
 ghost use Rattle.al_http.specs.Fronts.{AppendsFront, Gathers};
@@ -25,10 +25,7 @@ pub fn write_all<O: Sink>(sink: &mut O, bytes: &[u8]) -> Result<(), WriteFault>
 {
     let mut taken = 0;
     while taken < bytes.len() {
-        match sink.write(&bytes[taken..]) {
-            Ok(count) => taken += count,
-            Err(fault) => return Err(fault),
-        }
+        taken += sink.write(&bytes[taken..])?;
     }
     Ok(())
 }
@@ -44,13 +41,9 @@ fn make_room<O: Sink>(sink: &mut O, buffer: &mut Buffer) -> Result<(), WriteFaul
     if buffer.len() <= GATHERED {
         return Ok(());
     }
-    match write_all(sink, buffer.bytes()) {
-        Ok(()) => {
-            buffer.clear();
-            Ok(())
-        }
-        Err(fault) => Err(fault),
-    }
+    write_all(sink, buffer.bytes())?;
+    buffer.clear();
+    Ok(())
 }
 
 /// Sends the name of a shelf as it stands in a path, and leaves the last of it gathered.
@@ -63,10 +56,8 @@ fn send_escaped<O: Sink>(sink: &mut O, buffer: &mut Buffer, name: &[u8]) -> Resu
     ensures cause { OnErr result (Rose (O.faults sink.old) (O.faults sink.new)) }
 {
     for byte in name {
-        match make_room(sink, buffer) {
-            Ok(()) => push_escape(buffer, *byte),
-            Err(fault) => return Err(fault),
-        }
+        make_room(sink, buffer)?;
+        push_escape(buffer, *byte);
     }
     Ok(())
 }
@@ -90,13 +81,9 @@ fn send_location<O: Sink>(
     };
     buffer.push_text("Location: ");
     buffer.push_text("/restconf/data/ietf-alarms:alarms/control/alarm-shelving/shelf=");
-    match send_escaped(sink, buffer, name.bytes()) {
-        Ok(()) => {
-            buffer.push_text("\r\n");
-            Ok(())
-        }
-        Err(fault) => Err(fault),
-    }
+    send_escaped(sink, buffer, name.bytes())?;
+    buffer.push_text("\r\n");
+    Ok(())
 }
 
 /// Sends what was gathered and then a text, together where both fit.
@@ -110,10 +97,8 @@ fn send_with<O: Sink>(sink: &mut O, buffer: &mut Buffer, text: &[u8]) -> Result<
         buffer.push(text);
         return write_all(sink, buffer.bytes());
     }
-    match write_all(sink, buffer.bytes()) {
-        Ok(()) => write_all(sink, text),
-        Err(fault) => Err(fault),
-    }
+    write_all(sink, buffer.bytes())?;
+    write_all(sink, text)
 }
 
 /// Sends what was gathered, the empty line and the body.
@@ -156,8 +141,141 @@ pub fn respond<O: Sink>(sink: &mut O, response: &Response, last: bool) -> Result
 {
     let mut buffer = Buffer::new();
     push_fields(&mut buffer, response, last);
-    match send_location(sink, &mut buffer, &response.location) {
-        Ok(()) => send_body(sink, &mut buffer, response),
-        Err(fault) => Err(fault),
+    send_location(sink, &mut buffer, &response.location)?;
+    send_body(sink, &mut buffer, response)
+}
+
+#[cfg(test)]
+mod tests {
+    use super::*;
+    use al_base::{List, MemSink};
+    use std::alloc::{AllocError, Global};
+    use std::test::Fail;
+
+    const COUNT: &[u8] = b"{\"ietf-alarms:number-of-alarms\":0}";
+
+    /// An answer with a body of these bytes.
+    fn answer(alloc: Global, text: &[u8], bare: bool) -> Result<Response, AllocError>
+        ensures { IfOk result HasText }
+    {
+        Ok(Response {
+            status: 200,
+            place: Some(0),
+            allow: 0,
+            location: None,
+            content: Content::Tree(List::of(Vec::from_slice(alloc, text)?)),
+            bare,
+        })
+    }
+
+    /// The answer to a POST that made a shelf of this name.
+    fn creation(alloc: Global, name: &[u8]) -> Result<Response, Fail>
+        ensures { IfOk result HasText }
+    {
+        Ok(Response {
+            status: 201,
+            place: Some(12),
+            allow: 0,
+            location: Some(Text::read(alloc, name)?),
+            content: Content::Empty,
+            bare: false,
+        })
+    }
+
+    /// What is written of a response in one piece.
+    fn written(alloc: Global, response: &Response, last: bool) -> Result<Vec<u8>, Fail>
+        requires { HasText response.now }
+    {
+        let mut sink = MemSink::new(alloc, 1000, &[2])?;
+        respond(&mut sink, response, last)?;
+        Ok(Vec::from_slice(alloc, sink.bytes())?)
+    }
+
+    #[test]
+    fn writes_answers(rt: HostRuntime) -> Result<(), Fail> {
+        let alloc = rt.alloc();
+        assert_eq!(rt;
+            written(alloc, &answer(alloc, COUNT, false)?, false)?.as_slice(),
+            b"HTTP/1.1 200 OK\r\nAlarm-Place: 0\r\nContent-Length: 34\r\nContent-Type: application/yang-data+json\r\n\r\n{\"ietf-alarms:number-of-alarms\":0}".as_slice()
+        );
+        assert_eq!(rt;
+            written(alloc, &answer(alloc, COUNT, true)?, true)?.as_slice(),
+            b"HTTP/1.1 200 OK\r\nAlarm-Place: 0\r\nConnection: close\r\nContent-Length: 34\r\nContent-Type: application/yang-data+json\r\n\r\n".as_slice()
+        );
+        assert_eq!(rt;
+            written(alloc, &answer(alloc, b"", false)?, false)?.as_slice(),
+            b"HTTP/1.1 200 OK\r\nAlarm-Place: 0\r\nContent-Length: 0\r\n\r\n".as_slice()
+        );
+        assert_eq!(rt;
+            written(alloc, &Response::bodiless(204, Some(3)), false)?.as_slice(),
+            b"HTTP/1.1 204 No Content\r\nAlarm-Place: 3\r\n\r\n".as_slice()
+        );
+        assert_eq!(rt;
+            written(alloc, &creation(alloc, b"a-b/\xc3\xa9 ~%")?, false)?.as_slice(),
+            b"HTTP/1.1 201 Created\r\nAlarm-Place: 12\r\nContent-Length: 0\r\nLocation: /restconf/data/ietf-alarms:alarms/control/alarm-shelving/shelf=a-b%2F%C3%A9%20~%25\r\n\r\n".as_slice()
+        );
+        let mut root = Response::bodiless(200, Some(5));
+        root.content = Content::HostMeta;
+        assert_eq!(rt;
+            written(alloc, &root, false)?.as_slice(),
+            b"HTTP/1.1 200 OK\r\nAlarm-Place: 5\r\nContent-Length: 100\r\nContent-Type: application/xrd+xml\r\n\r\n<XRD xmlns='http://docs.oasis-open.org/ns/xri/xrd-1.0'><Link rel='restconf' href='/restconf'/></XRD>".as_slice()
+        );
+        Ok(())
+    }
+
+    #[test]
+    fn writes_refusals(rt: HostRuntime) -> Result<(), Fail> {
+        let alloc = rt.alloc();
+        assert_eq!(rt;
+            written(alloc, &Response::of_row(5, Some(0)), false)?.as_slice(),
+            b"HTTP/1.1 404 Not Found\r\nAlarm-Place: 0\r\nContent-Length: 121\r\nContent-Type: application/yang-data+json\r\n\r\n{\"ietf-restconf:errors\":{\"error\":[{\"error-message\":\"no such path\",\"error-tag\":\"invalid-value\",\"error-type\":\"protocol\"}]}}".as_slice()
+        );
+        assert_eq!(rt;
+            written(alloc, &Response::of_framing(), true)?.as_slice(),
+            b"HTTP/1.1 400 Bad Request\r\nConnection: close\r\nContent-Length: 122\r\nContent-Type: application/yang-data+json\r\n\r\n{\"ietf-restconf:errors\":{\"error\":[{\"error-message\":\"bad head\",\"error-tag\":\"malformed-message\",\"error-type\":\"transport\"}]}}".as_slice()
+        );
+        assert_eq!(rt;
+            written(alloc, &Response::out_of_memory(u64::MAX), true)?.as_slice(),
+            b"HTTP/1.1 503 Service Unavailable\r\nAlarm-Place: 18446744073709551615\r\nConnection: close\r\nContent-Length: 0\r\n\r\n".as_slice()
+        );
+        let mut refusal = Response::of_row(9, Some(7));
+        refusal.allow = 6;
+        assert_eq!(rt;
+            written(alloc, &refusal, false)?.as_slice(),
+            b"HTTP/1.1 405 Method Not Allowed\r\nAlarm-Place: 7\r\nAllow: GET, HEAD\r\nContent-Length: 137\r\nContent-Type: application/yang-data+json\r\n\r\n{\"ietf-restconf:errors\":{\"error\":[{\"error-message\":\"method not allowed\",\"error-tag\":\"operation-not-supported\",\"error-type\":\"protocol\"}]}}".as_slice()
+        );
+        Ok(())
+    }
+
+    /// A long body goes after the head, and a fault leaves what was written before it.
+    #[test]
+    fn stops_at_a_fault(rt: HostRuntime) -> Result<(), Fail> {
+        let response = answer(rt.alloc(), &[b'x'; 2000], false)?;
+        for (fails, expected, len) in [
+            (3, Ok(()), 2099),
+            (2, Err(WriteFault), 99),
+            (1, Err(WriteFault), 0),
+        ] {
+            let mut sink = MemSink::new(rt.alloc(), 4000, &[fails])?;
+            assert_eq!(rt; respond(&mut sink, &response, false), expected);
+            assert_eq!(rt; sink.bytes().len(), len);
+        }
+        Ok(())
+    }
+
+    /// The name of a shelf is sent in pieces where it is long.
+    #[test]
+    fn writes_a_long_name(rt: HostRuntime) -> Result<(), Fail> {
+        let mut sink = MemSink::new(rt.alloc(), 4000, &[])?;
+        assert_eq!(rt;
+            respond(&mut sink, &creation(rt.alloc(), &[b'/'; 1000])?, false),
+            Ok(())
+        );
+        assert_eq!(rt; sink.bytes().len(), 135 + 3000);
+        assert_eq!(rt;
+            sink.bytes()[3121..].iter().eq(b"F%2F%2F%2F\r\n\r\n".iter()),
+            true
+        );
+        Ok(())
     }
 }

@@ -36,10 +36,15 @@ no_memory true true event reply h = cc
 no_memory true false event reply h = cc
 no_memory false t event reply h = cc
 
-at_clock_end : (c t : Bool) (event : Event) (reply : Reply) → decided c t event reply ≡ Refuse ClockEnd → t ≡ true
-at_clock_end true true event reply h = refl
+at_clock_end : (c t : Bool) (event : Event) (reply : Reply) → decided c t event reply ≡ Refuse ClockEnd → (c ≡ true) × (t ≡ true)
+at_clock_end true true event reply h = (refl, refl)
 at_clock_end true false event reply h = absurd (cc)
 at_clock_end false t event reply h = absurd (cc)
+
+ends_clock : (c t : Bool) (event : Event) (reply : Reply) → (c ≡ false → ⊥) → t ≡ true → decided c t event reply ≡ Refuse ClockEnd
+ends_clock true true event reply new late = refl
+ends_clock true false event reply new late = absurd (cc)
+ends_clock false t event reply new late = absurd (new refl)
 
 change_changes : (c t : Bool) (event : Event) (reply : Reply) (made : Event) → IsChangeBy (decided c t event reply) made → c ≡ true
 change_changes true t event reply made h = refl
@@ -65,11 +70,15 @@ alarms_unchanged s (events.Report r status t) h = by (reported (alarm_of r s.ala
     by None is h = refl
     by (Some a) is h = absurd (changed r status t s.alarms a is h)
 
+-- an event that changes nothing leaves all but the time
+same_state : (s : State) (origin : ℕ) (request : Request) (now : ℕ) → changes s (event_of s request) ≡ false → IsSameButTime s (step s (entry_of s origin (event_of s request) now))
+unfolding step
+same_state s origin request now h =
+    ap (λ alarms. let made : State = record { alarms = alarms; time = entry_time s now } in made) (unchanged_alarms s (event_of s request) h)
+
 pub same_is : (s : State) (origin : ℕ) (request : Request) (now : ℕ) → IsSame (decision_of s request now) → IsSameButTime s (step s (entry_of s origin (event_of s request) now))
-unfolding decision_of step
-same_is s origin request now h =
-    ap (λ alarms. let made : State = record { alarms = alarms; time = entry_time s now } in made)
-    (unchanged_alarms s (event_of s request) (same_unchanged _ _ _ _ h))
+unfolding decision_of
+same_is s origin request now h = same_state s origin request now (same_unchanged _ _ _ _ h)
 
 pub is_same : (s : State) (origin : ℕ) (request : Request) (now : ℕ) → IsSameButTime s (step s (entry_of s origin (event_of s request) now)) → IsSame (decision_of s request now)
 unfolding decision_of step
@@ -79,9 +88,18 @@ pub never_memory : (s : State) (request : Request) (now : ℕ) → decision_of s
 unfolding decision_of
 never_memory s request now h = no_memory _ _ _ _ h
 
-pub clock_end : (s : State) (request : Request) (now : ℕ) → decision_of s request now ≡ Refuse ClockEnd → s.time ≡ last_stamp
-unfolding decision_of
-clock_end s request now h = (Decides-eqb s.time last_stamp).0 (at_clock_end _ _ _ _ h)
+pub clock_end : (s : State) (origin : ℕ) (request : Request) (now : ℕ) → decision_of s request now ≡ Refuse ClockEnd → (IsSameButTime s (step s (entry_of s origin (event_of s request) now)) → ⊥) × (s.time ≡ last_stamp)
+unfolding decision_of step
+clock_end s origin request now h =
+    let d = at_clock_end _ _ _ _ h in (
+      λ same. let unchanged = alarms_unchanged s (event_of s request) (ap (λ t. t.alarms) same) in absurd (cc),
+      (Decides-eqb s.time last_stamp).0 d.1,
+    )
+
+pub at_end : (s : State) (origin : ℕ) (request : Request) (now : ℕ) → (IsSameButTime s (step s (entry_of s origin (event_of s request) now)) → ⊥) → s.time ≡ last_stamp → decision_of s request now ≡ Refuse ClockEnd
+unfolding decision_of step
+at_end s origin request now new late =
+    ends_clock _ _ _ _ (λ unchanged. new (same_state s origin request now unchanged)) ((Decides-eqb s.time last_stamp).1 late)
 
 -- an event that was decided on changes something
 pub fitting_changes : (s : State) (request : Request) (now : ℕ) (event : Event) → IsChangeBy (decision_of s request now) event → changes s (event_of s request) ≡ true

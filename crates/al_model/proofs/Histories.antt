@@ -63,7 +63,7 @@ pub others_step : (s : State) (e : Entry) (r : Text) → r ≢ resource_of e.eve
 unfolding step
 others_step s e r other = others_event s.alarms e.event r other
 
-others_from : (s : State) (h : List Entry) (r : Text) → AllByRecursion (λ later. r ≢ resource_of later.event) h → alarm_of r (replay_from s h).alarms ≡ alarm_of r s.alarms
+pub others_from : (s : State) (h : List Entry) (r : Text) → AllByRecursion (λ later. r ≢ resource_of later.event) h → alarm_of r (replay_from s h).alarms ≡ alarm_of r s.alarms
 others_from s [] r others = refl
 others_from s (e ∷ h) r others = others_from (step s e) h r others.1 ∙ others_step s e r others.0
 

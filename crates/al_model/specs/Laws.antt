@@ -1,5 +1,5 @@
 -- What holds of every state and history.
-use Rattle.std.specs.Prelude.{◌≡◌, ◌≢◌, ◌↔◌, ℕ, ◌≤◌, true, false, Some, List, [], ◌∷◌, ◌++◌, take, slice_get, IsSomeAnd}
+use Rattle.std.specs.Prelude.{◌≡◌, ◌≢◌, ◌↔◌, ℕ, ◌≤◌, true, false, Some, None, List, [], ◌∷◌, ◌++◌, take, slice_get, IsSomeAnd}
 use Rattle.std.specs.List.{AllByRecursion}
 use Rattle.std.specs.Option.{option_map}
 use Rattle.al_base.specs.declared.severity.Status.{Status}
@@ -27,9 +27,11 @@ SameLeavesAllButTime =
 abbrev pub NeverRefusesForMemory : Type 0
 NeverRefusesForMemory = (s : State) (request : Request) (now : ℕ) → decision_of s request now ≢ Refuse Memory
 
--- A decision refuses for the clock only where the last entry has the last stamp.
-abbrev pub ClockEndOnlyAtLastStamp : Type 0
-ClockEndOnlyAtLastStamp = (s : State) (request : Request) (now : ℕ) → decision_of s request now ≡ Refuse ClockEnd → s.time ≡ last_stamp
+-- A decision refuses for the clock exactly where the step would change more than the time and the last entry has the last stamp.
+abbrev pub ClockEndsAtLastStamp : Type 0
+ClockEndsAtLastStamp =
+    (s : State) (origin : ℕ) (request : Request) (now : ℕ) →
+    decision_of s request now ≡ Refuse ClockEnd ↔ ((IsSameButTime s (step s (entry_of s origin (event_of s request) now)) → ⊥) × (s.time ≡ last_stamp))
 
 -- A history is legal exactly where each entry fits the replay of what is before it.
 abbrev pub EveryPrefixFits : Type 0
@@ -71,6 +73,10 @@ IsLeftBy Cleared text a = (a.cleared ≡ true) × (a.text ≡ text)
 abbrev pub OthersStay : Type 0
 OthersStay =
     (s : State) (e : Entry) (resource : Text) → resource ≢ resource_of e.event → alarm_of resource (step s e).alarms ≡ alarm_of resource s.alarms
+
+-- A resource of which no entry speaks has no alarm.
+abbrev pub UnreportedHaveNone : Type 0
+UnreportedHaveNone = (h : List Entry) (resource : Text) → AllByRecursion (λ e. resource ≢ resource_of e.event) h → alarm_of resource (replay h).alarms ≡ None
 
 -- The newest entry of a resource decides what its alarm says.
 abbrev pub NewestDecides : Type 0

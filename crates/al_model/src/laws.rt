@@ -1,12 +1,12 @@
 //! What holds of every state and history, each as the contract of a function that does nothing.
 
-ghost use Rattle.al_model.specs.Laws.{SameLeavesAllButTime, NeverRefusesForMemory, ClockEndOnlyAtLastStamp, EveryPrefixFits, OneMoreIsOneStep, OneMoreFits, DecidedEntriesFit, EndsInTime, AlarmsAreInOrder, OthersStay, NewestDecides, ClearLeavesSeverity};
+ghost use Rattle.al_model.specs.Laws.{SameLeavesAllButTime, NeverRefusesForMemory, ClockEndsAtLastStamp, EveryPrefixFits, OneMoreIsOneStep, OneMoreFits, DecidedEntriesFit, EndsInTime, AlarmsAreInOrder, OthersStay, UnreportedHaveNone, NewestDecides, ClearLeavesSeverity};
 
 /// When a request changes nothing, and by what it is refused.
 pub fn decisions_follow_the_step()
     ensures same { SameLeavesAllButTime }
     ensures never_memory { NeverRefusesForMemory }
-    ensures clock_end { ClockEndOnlyAtLastStamp }
+    ensures clock_end { ClockEndsAtLastStamp }
 {}
 
 /// Which histories are legal, and what one more entry makes of one.
@@ -22,6 +22,7 @@ pub fn histories_grow_by_one_step()
 pub fn alarms_follow_the_history()
     ensures in_order { AlarmsAreInOrder }
     ensures others { OthersStay }
+    ensures unreported { UnreportedHaveNone }
     ensures newest { NewestDecides }
     ensures severity { ClearLeavesSeverity }
 {}

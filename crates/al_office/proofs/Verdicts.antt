@@ -1,6 +1,5 @@
 -- A decision, by its two tests.
-use Rattle.std.proofs.Common.{◌≡◌, ◌≢◌, ◌==◌, ℕ, true, false, refl, ap, ◌∙◌, arith}
-use Rattle.std.proofs.lemmas.Bool.Decides.{Decides-eqb, nat_tests}
+use Rattle.std.proofs.Common.{◌≡◌, ◌==◌, ℕ, true, false, refl, ap, ◌∙◌}
 use Rattle.al_model.specs.Decision.{changes, decision_on, decision_of, event_of}
 use Rattle.al_model.specs.Limits.{last_stamp}
 use Rattle.al_model.specs.State.{State}
@@ -24,10 +23,10 @@ pub same_verdict : (s : State) (request : Request) (now : ℕ) (event : Event) �
 unfolding decision_of
 same_verdict s request now event is h = same_on s event h ∙ ap (decision_on s) is
 
-pub refused_verdict : (s : State) (request : Request) (now : ℕ) (event : Event) → event ≡ event_of s request → changes s event ≡ true → s.time ≡ last_stamp → Refuse ClockEnd ≡ decision_of s request now
+pub refused_verdict : (s : State) (request : Request) (now : ℕ) (event : Event) → event ≡ event_of s request → changes s event ≡ true → (s.time == last_stamp) ≡ true → Refuse ClockEnd ≡ decision_of s request now
 unfolding decision_of
-refused_verdict s request now event is h late = refused_on s event h ((Decides-eqb s.time last_stamp).1 late) ∙ ap (decision_on s) is
+refused_verdict s request now event is h late = refused_on s event h late ∙ ap (decision_on s) is
 
-pub changed_verdict : (s : State) (request : Request) (now : ℕ) (event : Event) → event ≡ event_of s request → changes s event ≡ true → s.time ≢ last_stamp → Change event Done ≡ decision_of s request now
+pub changed_verdict : (s : State) (request : Request) (now : ℕ) (event : Event) → event ≡ event_of s request → changes s event ≡ true → (s.time == last_stamp) ≡ false → Change event Done ≡ decision_of s request now
 unfolding decision_of
-changed_verdict s request now event is h early = changed_on s event h (grind (arith, nat_tests)) ∙ ap (decision_on s) is
+changed_verdict s request now event is h early = changed_on s event h early ∙ ap (decision_on s) is

@@ -4,5 +4,7 @@
 mod alarm;
 mod office;
 mod tables;
+#[cfg(test)]
+mod tests;
 
 pub use office::Office;

@@ -11,14 +11,11 @@ use al_model::{Decision, Event, Refusal, Reply, Request};
 use std::alloc::{AllocError, Global};
 use std::marker::Model;
 
-/// The last stamp, in milliseconds.
-const LAST_STAMP: u64 = 253_402_300_799_999;
-
 /// The state: the alarms in the order of their resources, and the time of the last entry.
 #[derive(Debug, Drop)]
 pub struct Tables {
     alarms: Vec<Alarm>,
-    time: u64,
+    time: Stamp,
 }
 
 impl Model for Tables {
@@ -46,7 +43,7 @@ impl Tables {
     {
         Tables {
             alarms: Vec::new(alloc),
-            time: 0,
+            time: Stamp::EPOCH,
         }
     }
 
@@ -81,7 +78,7 @@ impl Tables {
         let event = request.into_event();
         if !self.is_changed_by(&event) {
             Decision::Same(Reply::Done)
-        } else if self.time == LAST_STAMP {
+        } else if self.time == Stamp::LAST {
             Decision::Refuse(Refusal::ClockEnd)
         } else {
             Decision::Change(event, Reply::Done)
@@ -94,7 +91,7 @@ impl Tables {
         ensures time { result ≡ entry_time self.now.state now }
         ensures last { result ≤ last_stamp }
     {
-        match Stamp::of(now.ms().max(self.time + 1)) {
+        match Stamp::of(now.ms().max(self.time.ms() + 1)) {
             Some(time) => time,
             None => unreachable!(),
         }
@@ -155,7 +152,7 @@ impl Tables {
                 let _ = self.alarms.insert(place, alarm);
             }
         }
-        self.time = time.ms();
+        self.time = time;
     }
 }
 

@@ -1,5 +1,5 @@
 use Rattle.al_model.specs.State.{start, step}
-use Rattle.al_model.proofs.Histories.{in_order_from, others_step, newest}
+use Rattle.al_model.proofs.Histories.{in_order_from, others_step, others_from, newest}
 use Rattle.al_model.proofs.Placing.{in_order_none}
 use Rattle.al_model.proofs.Reporting.{severity_stays}
 use Rattle.al_model.proofs.laws.alarms_follow_the_history.Goals as goal
@@ -9,6 +9,9 @@ returns-clause-in_order c = λ h. in_order_from start h in_order_none
 
 pub returns-clause-others : goal.returns-clause-others
 returns-clause-others c = others_step
+
+pub returns-clause-unreported : goal.returns-clause-unreported
+returns-clause-unreported c = λ h resource others. others_from start h resource others
 
 pub returns-clause-newest : goal.returns-clause-newest
 returns-clause-newest c = newest

@@ -1,0 +1,66 @@
+ghost use Rattle.al_ids.specs.Keys.{key_cmp};
+ghost use Rattle.std.proofs.Common.{rules};
+ghost use Rattle.std.specs.Cmp.Rules.{comparing};
+ghost use Rattle.std.specs.Cmp.{partial_order_from_own_ties};
+ghost use Rattle.std.specs.Ordering.{as_partial_cmp};
+ghost use Rattle.std.specs.Prelude.{◌≡◌, ◌↔◌};
+
+use crate::resource::Resource;
+use al_base::{Copied, Text, TypeId};
+use std::alloc::{AllocError, Global};
+use std::cmp::Ordering;
+
+/// What identifies an alarm (RFC 8632, section 3.3).
+#[derive(Debug, Drop, PartialEq, Eq)]
+pub struct AlarmKey {
+    /// What the alarm is about.
+    pub resource: Resource,
+    /// The type of the alarm.
+    pub type_id: TypeId,
+    /// What tells alarms of one type apart that were known only when the device ran, mostly empty.
+    pub qualifier: Text,
+}
+
+// Keys are ordered by the bytes of the resource, then of the type, then of the qualifier.
+
+impl PartialOrd for AlarmKey {
+    ghost partial_cmp = { as_partial_cmp key_cmp };
+
+    ghost laws = { partial_order_from_own_ties (Prim.search (comparing, rules)) (Prim.search (comparing, rules)) };
+
+    fn partial_cmp(&self, other: &AlarmKey) -> Option<Ordering> {
+        Some(self.cmp(other))
+    }
+}
+
+impl Ord for AlarmKey {
+    ghost cmp = { key_cmp };
+
+    ghost total = { Prim.search (comparing, rules) };
+
+    ghost matches_partial_cmp = { Prim.search (comparing, rules) };
+
+    ghost matches_eq = { Prim.search (comparing, rules) };
+
+    fn cmp(&self, other: &AlarmKey) -> Ordering {
+        self.resource
+            .cmp(&other.resource)
+            .then(self.type_id.cmp(&other.type_id))
+            .then(self.qualifier.cmp(&other.qualifier))
+    }
+}
+
+impl Copied for AlarmKey {
+    fn copy(&self, alloc: Global) -> Result<AlarmKey, AllocError> {
+        Ok(AlarmKey {
+            resource: self.resource.copy(alloc)?,
+            type_id: self.type_id.copy(alloc)?,
+            qualifier: self.qualifier.copy(alloc)?,
+        })
+    }
+}
+
+/// Two keys compare as equal exactly where they are one key.
+pub fn equal_keys_are_one()
+    ensures { (a b : AlarmKey) → (key_cmp a b ≡ Ordering.Equal) ↔ (a ≡ b) }
+{}

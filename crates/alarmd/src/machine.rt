@@ -1,0 +1,125 @@
+//! The machine of the server's resources: which request gets which answer.
+
+ghost use Rattle.std.specs.Prelude.{◌≡◌, ◌↔◌, None, Some, IsTrue, IfOk, OnErr, List, [], ◌∷◌, ◌++◌, length, codes, decimal};
+ghost use Rattle.al_http.specs.Requests.{path_of, query_of};
+ghost use Rattle.al_http.specs.Responses.{HasText};
+ghost use Rattle.al_http.specs.Shown.{message_of};
+ghost use Rattle.al_model.specs.History.{replay};
+ghost use Rattle.alarmd.specs.Exchanges.{Answered};
+ghost use Rattle.alarmd.specs.Machine.{AsksCount, BringsReport, AnswersReport, IsAnswer, count_response, count_text};
+
+use crate::report::{ReportFault, read_report};
+use crate::service::Service;
+use al_base::{List, Stamp};
+use al_http::{Content, HttpRequest, Response};
+use al_model::{Kept, Refusal};
+use al_office::Office;
+use std::alloc::{AllocError, Global};
+
+/// The number of the refusal `no such path`.
+const NO_SUCH_PATH: u8 = 5;
+
+/// The number of the refusal `bad value`.
+const BAD_VALUE: u8 = 15;
+
+/// The number of the refusal `clock at its end`.
+const CLOCK_AT_ITS_END: u8 = 26;
+
+const COUNT_PATH: &[u8] = b"/restconf/data/ietf-alarms:alarms/alarm-list/number-of-alarms";
+
+const REPORT_PATH: &[u8] = b"/restconf/operations/alarmd:report";
+
+/// Answers the count of the alarms and takes reports.
+#[derive(Drop)]
+pub struct Machine {
+    alloc: Global,
+}
+
+impl Machine {
+    pub fn new(alloc: Global) -> Machine {
+        Machine { alloc }
+    }
+}
+
+impl Service<Office> for Machine {
+    ghost use Rattle.alarmd.specs.Machine.{IsAnswer};
+
+    ghost answers = { λ _. IsAnswer };
+
+    fn answer(
+        &mut self,
+        office: &mut Office,
+        origin: u16,
+        request: &HttpRequest,
+        now: Stamp,
+    ) -> Result<Response, AllocError> {
+        if asks_count(request) {
+            return count(self.alloc, office);
+        }
+        if brings_report(request) {
+            return take_report(self.alloc, office, origin, request.body(), now);
+        }
+        Ok(Response::of_row(NO_SUCH_PATH, Some(office.entries())))
+    }
+}
+
+/// Whether the method and the path are these, without a query.
+fn is_request(request: &HttpRequest, method: &[u8], path: &[u8]) -> bool
+    ensures { IsTrue result ↔ ((message_of request.now).method ≡ method.now) × (path_of (message_of request.now).target ≡ path.now) × (query_of (message_of request.now).target ≡ None) }
+{
+    request.method() == method && request.path() == path && request.query().is_none()
+}
+
+fn asks_count(request: &HttpRequest) -> bool
+    ensures { IsTrue result ↔ AsksCount (message_of request.now) }
+{
+    is_request(request, b"GET", COUNT_PATH)
+}
+
+fn brings_report(request: &HttpRequest) -> bool
+    ensures { IsTrue result ↔ BringsReport (message_of request.now) }
+{
+    is_request(request, b"POST", REPORT_PATH)
+}
+
+/// The number of alarms.
+fn count(alloc: Global, office: &Office) -> Result<Response, AllocError>
+    ensures { IfOk result (λ response. response ≡ count_response (length office.now.entries) (length (replay office.now.entries).alarms)) }
+{
+    let number = office.number_of_alarms();
+    let text = format!(in alloc; "{{\"ietf-alarms:number-of-alarms\":{number}}}")?;
+    Ok(Response {
+        status: 200,
+        place: Some(office.entries()),
+        allow: 0,
+        location: None,
+        content: Content::Tree(List::of(text.into_bytes())),
+        bare: false,
+    })
+}
+
+/// Has a report decided upon and carried out.
+fn take_report(
+    alloc: Global,
+    office: &mut Office,
+    origin: u16,
+    body: &[u8],
+    now: Stamp,
+) -> Result<Response, AllocError>
+    ensures answered { IfOk result (AnswersReport office.old.entries office.new.entries origin body.now now) }
+    ensures place { IfOk result (λ response. response.place ≡ Some (length office.old.entries)) }
+    ensures text { IfOk result HasText }
+    ensures unanswered { OnErr result (office.new.entries ≡ office.old.entries) }
+{
+    let place = Some(office.entries());
+    let report = match read_report(alloc, body) {
+        Ok(report) => report,
+        Err(ReportFault::Form) => return Ok(Response::of_row(BAD_VALUE, place)),
+        Err(ReportFault::Memory) => return Err(AllocError),
+    };
+    match office.change(origin, report, now) {
+        Ok(_) => Ok(Response::bodiless(204, place)),
+        Err(Refusal::ClockEnd) => Ok(Response::of_row(CLOCK_AT_ITS_END, place)),
+        Err(Refusal::Memory) => Err(AllocError),
+    }
+}

@@ -1,0 +1,32 @@
+use al_base::Stamp;
+use al_http::{HttpRequest, Response};
+use al_model::Kept;
+use std::alloc::AllocError;
+
+/// What answers requests over a history.
+pub trait Service<T: Kept>: Drop {
+    ghost use Rattle.std.specs.Prelude.{◌≡◌, ℕ, Some, List, length, IfOk, OnErr};
+    ghost use Rattle.al_model.specs.declared.entry.Entry.{Entry};
+    ghost use Rattle.al_http.specs.Requests.{RequestMessage};
+    ghost use Rattle.al_http.specs.Responses.{HasText};
+    ghost use Rattle.al_http.specs.Shown.{message_of};
+    ghost use Rattle.al_http.specs.declared.response.Response.{Response};
+    ghost use Rattle.alarmd.specs.Exchanges.{Answered};
+
+    /// Over a history, a request of an origin at a reading of the clock may have this response and add these entries.
+    ghost answers: { Self → List Entry → ℕ → RequestMessage → ℕ → Response → List Entry → Type 0 };
+
+    /// Answers a request. Where there is no memory for it nothing has changed.
+    fn answer(
+        &mut self,
+        kept: &mut T,
+        origin: u16,
+        request: &HttpRequest,
+        now: Stamp,
+    ) -> Result<Response, AllocError>
+        ensures same { self.new ≡ self.old }
+        ensures answered { IfOk result (Answered (answers self.old) (T.list kept.old) (T.list kept.new) origin (message_of request.now) now) }
+        ensures place { IfOk result (λ response. response.place ≡ Some (length (T.list kept.old))) }
+        ensures text { IfOk result HasText }
+        ensures unanswered { OnErr result (T.list kept.new ≡ T.list kept.old) };
+}
