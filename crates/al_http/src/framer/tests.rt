@@ -66,18 +66,20 @@ fn end_with_fields(
     take_pieces(alloc, framer, &input, 1)
 }
 
-/// The end of a stream whose one head has so many bytes in front of its last line's end.
+/// The end of a stream that is a head of so many bytes, and then so many LFs.
 fn end_with_bytes(
     alloc: Global,
     framer: &mut Framer,
     front: usize,
-    end: &[u8],
+    ends: usize,
 ) -> Result<(usize, End), AllocError> {
     let mut input = Vec::from_slice(alloc, b"GET / HTTP/1.1\na:")?;
     for _ in input.len()..front {
         input.push(b'b')?;
     }
-    input.extend_from_slice(end)?;
+    for _ in 0..ends {
+        input.push(b'\n')?;
+    }
     take_pieces(alloc, framer, &input, 1000)
 }
 
@@ -139,63 +141,63 @@ fn streams_end_as_they_do(rt: HostRuntime) -> Result<(), Fail> {
 
 #[test]
 fn heads_have_limits(rt: HostRuntime) -> Result<(), Fail> {
-    let alloc = rt.alloc();
-    let mut framer = Framer::new(alloc)?;
-    assert_eq!(rt; end_with_fields(alloc, &mut framer, 64)?, (1, End::Input));
-    assert_eq!(rt; end_with_fields(alloc, &mut framer, 65)?, (0, End::Bad));
-    assert_eq!(rt;
-        end_with_bytes(alloc, &mut framer, 16_382, b"\n\n")?,
-        (1, End::Input)
-    );
-    assert_eq!(rt;
-        end_with_bytes(alloc, &mut framer, 16_383, b"\n\n")?,
-        (0, End::Bad)
-    );
-    assert_eq!(rt;
-        end_with_bytes(alloc, &mut framer, 16_383, b"")?,
-        (0, End::Cut)
-    );
-    assert_eq!(rt;
-        end_with_bytes(alloc, &mut framer, 16_384, b"")?,
-        (0, End::Bad)
-    );
+    let mut framer = Framer::new(rt.alloc())?;
+    for (fields, expected) in [(64, (1, End::Input)), (65, (0, End::Bad))].iter() {
+        assert_eq!(rt;
+            end_with_fields(rt.alloc(), &mut framer, *fields)?,
+            *expected
+        );
+    }
+    let heads = [
+        (16_382, 2, (1, End::Input)),
+        (16_383, 2, (0, End::Bad)),
+        (16_383, 0, (0, End::Cut)),
+        (16_384, 0, (0, End::Bad)),
+    ];
+    for (front, ends, expected) in heads.iter() {
+        assert_eq!(rt;
+            end_with_bytes(rt.alloc(), &mut framer, *front, *ends)?,
+            *expected
+        );
+    }
     Ok(())
 }
 
 #[test]
 fn a_request_is_its_parts(rt: HostRuntime) -> Result<(), Fail> {
-    let input =
-        b"POST /a?b=c?d HTTP/1.1\r\nX-A:  1 \r\nx-a: 2\r\nContent-Length: 3\r\n\r\nxyzGET * HTTP/1.0\n\n";
+    let input = b"POST /a?b=c?d HTTP/1.1\r\nX-A:  1 \r\nx-a: 2\r\nContent-Length: 3\r\n\r\nxyz";
     let mut source = MemSource::new(rt.alloc(), input, &[1, 30], &[1, 3])?;
     let mut framer = Framer::new(rt.alloc())?;
-    assert_eq!(rt; is_stop(framer.next(&mut source), Stop::ReadFault), true);
-    assert_eq!(rt; is_stop(framer.next(&mut source), Stop::ReadFault), true);
-    match framer.next(&mut source) {
-        Ok(Some(request)) => {
-            assert_eq!(rt; request.method(), b"POST".as_slice());
-            assert_eq!(rt; request.path(), b"/a".as_slice());
-            assert_eq!(rt; request.query().unwrap_or(b""), b"b=c?d".as_slice());
-            assert_eq!(rt; request.field(b"X-a", 0).unwrap_or(b""), b"1".as_slice());
-            assert_eq!(rt; request.field(b"X-a", 1).unwrap_or(b""), b"2".as_slice());
-            assert_eq!(rt; request.field(b"X-a", 2).is_none(), true);
-            assert_eq!(rt; request.body(), b"xyz".as_slice());
-        }
-        _ => assert!(rt; false),
+    for _ in 0..2 {
+        assert!(rt; faults(framer.next(&mut source)));
     }
     match framer.next(&mut source) {
         Ok(Some(request)) => {
-            assert_eq!(rt; request.path(), b"*".as_slice());
-            assert_eq!(rt; request.query().is_none(), true);
-            assert_eq!(rt; request.body().is_empty(), true);
+            let parts = [
+                (request.method(), b"POST".as_slice()),
+                (request.path(), b"/a".as_slice()),
+                (request.query().unwrap_or(b""), b"b=c?d".as_slice()),
+                (request.field(b"X-a", 0).unwrap_or(b""), b"1".as_slice()),
+                (request.field(b"X-a", 1).unwrap_or(b""), b"2".as_slice()),
+                (
+                    request.field(b"X-a", 2).unwrap_or(b"none"),
+                    b"none".as_slice(),
+                ),
+                (request.body(), b"xyz".as_slice()),
+            ];
+            for (part, expected) in parts.iter() {
+                assert_eq!(rt; *part, *expected);
+            }
         }
         _ => assert!(rt; false),
     }
     Ok(())
 }
 
-fn is_stop(answer: Result<Option<HttpRequest<'_>>, Stop>, stop: Stop) -> bool {
+/// Whether a read failed.
+fn faults(answer: Result<Option<HttpRequest<'_>>, Stop>) -> bool {
     match answer {
-        Ok(_) => false,
-        Err(found) => found == stop,
+        Err(Stop::ReadFault) => true,
+        _ => false,
     }
 }
