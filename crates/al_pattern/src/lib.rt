@@ -1,0 +1,7 @@
+//! The pattern language of shelves and resource matches: a profile of XML Schema regular expressions.
+#![tactic(auto)]
+
+mod fault;
+mod letter;
+mod class;
+mod token;
