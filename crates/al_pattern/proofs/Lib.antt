@@ -1,1 +1,4 @@
+pub mod BitLemmas
+pub mod BuildLemmas
 pub mod ClassLemmas
+pub mod WalkLemmas

@@ -1,6 +1,11 @@
+pub mod Builds
 pub mod Bytes
 pub mod Classes
 pub mod Faults
 pub mod Letters
+pub mod Reading
+pub mod Sets
 pub mod Tests
 pub mod Tokens
+pub mod Trees
+pub mod Walk

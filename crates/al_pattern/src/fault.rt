@@ -56,3 +56,18 @@ impl<T: Drop> From<AllocFailed<T>> for ReadError {
         ReadError::Memory
     }
 }
+
+/// Why a text is no pattern; each place counts bytes from the front.
+#[derive(Debug, PartialEq, Eq, Drop)]
+pub enum PatternFault {
+    /// No pattern has this byte here, or the text ends too soon, or a range that begins here falls.
+    Syntax(usize),
+    /// A form of other pattern languages that this profile leaves out.
+    Unsupported(usize),
+    /// The byte begins node 257.
+    TooLarge(usize),
+    /// The byte opens the seventeenth group inside groups.
+    TooDeep(usize),
+    /// Memory ran out, which says nothing of the text.
+    Memory,
+}

@@ -3,5 +3,9 @@
 
 mod fault;
 mod letter;
+mod bits;
+mod builder;
 mod class;
+mod node;
 mod token;
+mod walk;

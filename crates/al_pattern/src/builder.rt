@@ -1,0 +1,60 @@
+//! A pattern under construction.
+
+ghost use Rattle.std.specs.Prelude.{◌≡◌, OnOk, vec_len};
+ghost use Rattle.al_pattern.specs.Reading.{Progress, start, put};
+ghost use Rattle.al_pattern.specs.Tokens.{shown, close_group};
+ghost use Rattle.al_pattern.specs.Builds.{Builds};
+
+use crate::node::{Node, set_of};
+use crate::token::{Quantifier, Token};
+use std::alloc::{AllocError, Global};
+
+/// The nodes so far, and where each open group begins.
+#[derive(Drop)]
+pub struct Builder {
+    pub nodes: Vec<Node>,
+    pub opens: Vec<usize>,
+}
+
+impl Builder {
+    pub fn new(alloc: Global) -> Self
+        ensures { Builds start result.nodes.items result.opens.items }
+    {
+        Builder {
+            nodes: Vec::new(alloc),
+            opens: Vec::new(alloc),
+        }
+    }
+
+    /// Adds a token.
+    pub fn put(&mut self, token: &Token) -> Result<(), AllocError>
+        requires { (p : Progress) × Builds p self.old.nodes.items self.old.opens.items }
+        ensures { OnOk result ((p : Progress) → Builds p self.old.nodes.items self.old.opens.items → Builds (put (shown token.now) p) self.new.nodes.items self.new.opens.items) }
+    {
+        match token {
+            Token::Bar => self.nodes.push(Node::Bar)?,
+            Token::Open => {
+                self.opens.push(self.nodes.len())?;
+                self.nodes.push(Node::Open(Quantifier::Once, 0))?;
+            }
+            Token::Close(quantifier) => self.close(*quantifier)?,
+            Token::One(test, quantifier) => {
+                self.nodes.push(Node::Test(set_of(test), *quantifier))?;
+            }
+        }
+        Ok(())
+    }
+
+    /// Ends the innermost group, and tells its beginning the quantifier and the end.
+    fn close(&mut self, quantifier: Quantifier) -> Result<(), AllocError>
+        requires { (p : Progress) × Builds p self.old.nodes.items self.old.opens.items }
+        ensures { OnOk result ((p : Progress) → Builds p self.old.nodes.items self.old.opens.items → Builds (put (close_group quantifier) p) self.new.nodes.items self.new.opens.items) }
+    {
+        if let Some(open) = self.opens.pop() {
+            let inner = self.nodes.len() - open - 1;
+            self.nodes[open] = Node::Open(quantifier, inner);
+            self.nodes.push(Node::Close(quantifier))?;
+        }
+        Ok(())
+    }
+}
