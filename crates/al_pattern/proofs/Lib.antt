@@ -1,4 +1,9 @@
 pub mod BitLemmas
 pub mod BuildLemmas
 pub mod ClassLemmas
+pub mod CutLemmas
+pub mod LanguageLemmas
+pub mod Marks
+pub mod RunLemmas
+pub mod TextLemmas
 pub mod WalkLemmas

@@ -2,7 +2,9 @@ pub mod Builds
 pub mod Bytes
 pub mod Classes
 pub mod Faults
+pub mod Language
 pub mod Letters
+pub mod Programs
 pub mod Reading
 pub mod Sets
 pub mod Tests

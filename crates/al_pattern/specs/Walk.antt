@@ -50,10 +50,6 @@ abbrev mutual
   atom_seen c (character t) q = seen_test (is_allowed t c) q ∷ []
   atom_seen c (group x) q = seen_open q (choice_size x) ∷ (choice_seen c x ++ seen_close q ∷ [])
 
--- the compiled nodes are those of the tree, whichever character sees them
-pub record AreNodesOf (nodes : List Node) (tree : Choice) : Type 0 where
-  pub agree : (c : ℕ) → map (seen c) nodes ≡ choice_seen c tree
-
 -- ---- one step
 
 -- Of a group and its current branch, before and after the character: may the branches begin here, may the rest of the
