@@ -62,6 +62,11 @@ mutual
     (false_append (choice_list x (choice_blank x)) (choice_final x (choice_blank x) ∷ []) (choice_blank_list x)
       (false_cons (choice_final x (choice_blank x)) [] (false_unless (choice_final x (choice_blank x)) (λ e. choice_blank_none x [] (choice_ends x (choice_blank x) e))) false_nil))
 
+pub same_verdict : (a b : Bool) → (a ≡ true → b ≡ true) → (b ≡ true → a ≡ true) → a ≡ b
+same_verdict true b f g = sym (f refl)
+same_verdict false true f g = g refl
+same_verdict false false f g = refl
+
 -- ---- the marks after a text
 
 abbrev pub marks_from : Bool → (x : Choice) → ChoiceMarks x → List ℕ → ChoiceMarks x

@@ -7,5 +7,6 @@ mod bits;
 mod builder;
 mod class;
 mod node;
+mod program;
 mod token;
 mod walk;
