@@ -2,8 +2,12 @@ pub mod BitLemmas
 pub mod BuildLemmas
 pub mod ClassLemmas
 pub mod CutLemmas
+pub mod FoundLemmas
+pub mod GrammarLemmas
 pub mod LanguageLemmas
 pub mod Marks
 pub mod RunLemmas
+pub mod TestLemmas
 pub mod TextLemmas
+pub mod TokenLemmas
 pub mod WalkLemmas
