@@ -1,6 +1,7 @@
 pub mod BitLemmas
 pub mod BuildLemmas
 pub mod ClassLemmas
+pub mod CompileLemmas
 pub mod CutLemmas
 pub mod FoundLemmas
 pub mod GrammarLemmas

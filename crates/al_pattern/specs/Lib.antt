@@ -4,6 +4,7 @@ pub mod Classes
 pub mod Faults
 pub mod Language
 pub mod Letters
+pub mod Patterns
 pub mod Programs
 pub mod Reading
 pub mod Sets

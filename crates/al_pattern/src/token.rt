@@ -45,7 +45,7 @@ pub enum Token {
 
 const NODE_SIGNS: [u8; 5] = *b".\\[(|";
 
-fn fault_at(kind: FaultKind, text: &[u8]) -> ReadError
+pub fn fault_at(kind: FaultKind, text: &[u8]) -> ReadError
     ensures { result ≡ ReadError.Fault (fault_at kind text.now) }
 {
     ReadError::Fault(Fault {
