@@ -7,6 +7,7 @@ pub mod FoundLemmas
 pub mod GrammarLemmas
 pub mod LanguageLemmas
 pub mod Marks
+pub mod PatternLemmas
 pub mod RunLemmas
 pub mod TestLemmas
 pub mod TextLemmas

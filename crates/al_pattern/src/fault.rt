@@ -3,6 +3,7 @@
 ghost use Rattle.std.specs.Prelude.{◌≡◌};
 ghost use Rattle.al_pattern.specs.declared.fault.ReadError.TheVariants.{Memory};
 ghost use Rattle.al_pattern.specs.declared.fault.ReadError.TheVariants as errors;
+ghost use Rattle.al_pattern.specs.declared.fault.PatternFault.TheVariants as faults;
 
 use std::alloc::{AllocError, AllocFailed};
 
@@ -70,4 +71,12 @@ pub enum PatternFault {
     TooDeep(usize),
     /// Memory ran out, which says nothing of the text.
     Memory,
+}
+
+impl From<AllocError> for PatternFault {
+    ghost from_gives = { λ _ e. e ≡ faults.Memory };
+
+    fn from(_e: AllocError) -> PatternFault {
+        PatternFault::Memory
+    }
 }

@@ -7,6 +7,10 @@ mod bits;
 mod builder;
 mod class;
 mod node;
+mod pattern;
 mod program;
 mod token;
 mod walk;
+
+pub use fault::PatternFault;
+pub use pattern::Pattern;
