@@ -14,3 +14,6 @@ mod walk;
 
 pub use fault::PatternFault;
 pub use pattern::Pattern;
+
+#[cfg(test)]
+mod tests;
