@@ -1,3 +1,4 @@
+pub mod AgainLemmas
 pub mod BitLemmas
 pub mod BuildLemmas
 pub mod ClassLemmas
