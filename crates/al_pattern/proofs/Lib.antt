@@ -8,6 +8,7 @@ pub mod FoundLemmas
 pub mod GrammarLemmas
 pub mod LanguageLemmas
 pub mod Marks
+pub mod OnlyLemmas
 pub mod PatternLemmas
 pub mod RunLemmas
 pub mod TestLemmas
