@@ -88,21 +88,28 @@ unfolding token_at is_unsupported is_char
 token_close depth nodes q rest le deep none =
     rw (not_zero depth deep) (ap (λ r. r >>= λ x. Ok (close_group x.0, x.1, x.2)) (quantifier_again q nodes rest le none))
 
+token_head : (depth nodes b : ℕ) (rest : List ℕ) → is_unsupported (b ∷ rest) ≡ false → (b == 41) ≡ false → begins_node b ≡ true → (b == 124) ≡ false → (b == 40) ≡ false
+  → nodes + 1 ≤ 256 → token_at depth nodes (b ∷ rest) ≡ one_at nodes (b ∷ rest)
+unfolding token_at
+token_head depth nodes b rest supported no_close begins no_bar no_open room = rw (supported, no_close, begins, below nodes 256 room, no_bar, no_open) refl
+
+token_test : (depth nodes : ℕ) (text : List ℕ) → Head text → nodes + 1 ≤ 256 → token_at depth nodes text ≡ one_at nodes text
+token_test depth nodes text h room =
+    let P : List ℕ → Type 0 = λ t. token_at depth nodes t ≡ one_at nodes t in
+    subst P (sym h.whole) (token_head depth nodes h.first h.rest h.supported h.no_close h.begins h.no_bar h.no_open room)
+
 token_one : (depth nodes : ℕ) (t : Test) (q : Quantifier) (rest : List ℕ) → is_test t ≡ true → nodes + (1 + quantifier_nodes q) ≤ 256 → no_quantifier rest
   → token_at depth nodes (test_spelling t ++ (quantifier_spelling q ++ rest)) ≡ Ok (one t q, nodes + (1 + quantifier_nodes q), rest)
-unfolding token_at
 token_one depth nodes t q rest e le none =
-    let text = test_spelling t ++ (quantifier_spelling q ++ rest) in
-    let h = test_head t (quantifier_spelling q ++ rest) e in
-    let room : nodes + 1 ≤ 256 = omega arith in
+    let back = quantifier_spelling q ++ rest in
     let count : nodes + 1 + quantifier_nodes q ≡ nodes + (1 + quantifier_nodes q) = omega arith in
-    let enough : nodes + 1 + quantifier_nodes q ≤ 256 = omega arith in
-    let front : token_at depth nodes (h.first ∷ h.rest) ≡ one_at nodes (h.first ∷ h.rest) =
-      rw (h.supported, h.no_close, h.begins, below nodes 256 room, h.no_bar, h.no_open) refl in
-    ap (token_at depth nodes) h.whole ∙ front ∙ ap (one_at nodes) (sym h.whole)
-      ∙ ap (λ r. r >>= λ x. quantifier_at (nodes + 1) x.1 >>= λ y. Ok (one x.0 y.0, y.1, y.2)) (test_again t (quantifier_spelling q ++ rest) e)
-      ∙ ap (λ r. r >>= λ y. Ok (one t y.0, y.1, y.2)) (quantifier_again q (nodes + 1) rest enough none)
-      ∙ ap (λ (n : ℕ). Ok (one t q, n, rest)) count
+    let first : token_at depth nodes (test_spelling t ++ back) ≡ one_at nodes (test_spelling t ++ back) =
+      token_test depth nodes (test_spelling t ++ back) (test_head t back e) (omega arith) in
+    let second : one_at nodes (test_spelling t ++ back) ≡ (quantifier_at (nodes + 1) back >>= λ y. Ok (one t y.0, y.1, y.2)) =
+      ap (λ r. r >>= λ x. quantifier_at (nodes + 1) x.1 >>= λ y. Ok (one x.0 y.0, y.1, y.2)) (test_again t back e) in
+    let third : (quantifier_at (nodes + 1) back >>= λ y. Ok (one t y.0, y.1, y.2)) ≡ Ok (one t q, nodes + 1 + quantifier_nodes q, rest) =
+      ap (λ r. r >>= λ y. Ok (one t y.0, y.1, y.2)) (quantifier_again q (nodes + 1) rest (omega arith) none) in
+    first ∙ second ∙ third ∙ ap (λ (n : ℕ). Ok (one t q, n, rest)) count
 
 -- ---- whole patterns
 

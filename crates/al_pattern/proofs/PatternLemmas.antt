@@ -4,6 +4,7 @@ use Rattle.al_pattern.specs.declared.node.Node.{Node}
 use Rattle.al_pattern.specs.declared.fault.Fault.{Fault}
 use Rattle.al_pattern.specs.declared.fault.FaultKind.{FaultKind}
 use Rattle.al_pattern.specs.declared.fault.FaultKind.TheVariants.{Syntax, Unsupported, TooLarge, TooDeep}
+use Rattle.al_pattern.specs.declared.fault.PatternFault.{PatternFault}
 use Rattle.al_pattern.specs.declared.fault.PatternFault.TheVariants as faults
 use Rattle.al_pattern.specs.Trees.{Choice, IsSpelled}
 use Rattle.al_pattern.specs.Language.{IsInLanguage}
@@ -13,6 +14,7 @@ use Rattle.al_pattern.specs.Patterns.{AreNodesOf, IsReady}
 use Rattle.al_pattern.specs.Reading.{reading, tree_of, tree_or_empty, first_fault, fault_or_none, fault_named, placed, IsFirstFault}
 use Rattle.al_pattern.proofs.CompileLemmas.{compiled_from}
 use Rattle.al_pattern.proofs.GrammarLemmas.{reading_found}
+use Rattle.al_pattern.proofs.OnlyLemmas.{tree_again, fault_again}
 
 -- the tree of a text that is read
 pub tree_is : (text : List ℕ) (tree : Choice) → reading text ≡ Ok tree → tree_of text ≡ tree
@@ -51,3 +53,24 @@ named text TooDeep place e = e
 
 pub fault_is_first : (text : List ℕ) (f : Fault) → reading text ≡ Err f → IsFirstFault text (placed text f)
 fault_is_first text f e = named text f.kind _ (the_fault text f e)
+
+-- ---- laws
+
+pub one_tree : (a b : Choice) (text : List ℕ) → IsSpelled a text → IsSpelled b text → a ≡ b
+one_tree a b text s t = sym (tree_again a text s) ∙ tree_again b text t
+
+fault_spelled : (text : List ℕ) (read : Result Choice Fault) → reading text ≡ read → fault_or_none text read ≡ None → IsSpelled (tree_of text) text
+fault_spelled text (Ok tree) e none = spelled_from text tree e
+fault_spelled text (Err f) e none = absurd (cc)
+
+pub no_fault_spelled : (text : List ℕ) → first_fault text ≡ None → IsSpelled (tree_of text) text
+unfolding first_fault
+no_fault_spelled text none = fault_spelled text (reading text) refl none
+
+-- a fault that comes first is no fault of a pattern
+pub refused_never : (text : List ℕ) (tree : Choice) (e : PatternFault) → IsSpelled tree text → IsFirstFault text e → e ≡ faults.Memory
+refused_never text tree faults.Memory s first = refl
+refused_never text tree (faults.Syntax n) s first = absurd (let none = fault_again tree text s in cc)
+refused_never text tree (faults.Unsupported n) s first = absurd (let none = fault_again tree text s in cc)
+refused_never text tree (faults.TooLarge n) s first = absurd (let none = fault_again tree text s in cc)
+refused_never text tree (faults.TooDeep n) s first = absurd (let none = fault_again tree text s in cc)

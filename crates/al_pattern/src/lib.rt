@@ -2,6 +2,7 @@
 #![tactic(auto)]
 
 mod fault;
+mod laws;
 mod letter;
 mod bits;
 mod builder;
@@ -13,6 +14,7 @@ mod token;
 mod walk;
 
 pub use fault::PatternFault;
+pub use laws::{no_fault, one_tree, tree_of_text};
 pub use pattern::Pattern;
 
 #[cfg(test)]

@@ -1,6 +1,6 @@
 //! Patterns.
 
-ghost use Rattle.std.specs.Prelude.{◌≡◌, ◌↔◌, ◌-◌, ℕ, List, length, None, IsTrue, IfOk, MatchResult, IsUtf8, chars};
+ghost use Rattle.std.specs.Prelude.{◌≡◌, ◌↔◌, ◌-◌, ℕ, List, length, None, IsTrue, IfOk, IsOkUnless, MatchResult, IsUtf8, chars};
 ghost use Rattle.al_pattern.specs.Faults.{Fails};
 ghost use Rattle.al_pattern.specs.Language.{IsInLanguage};
 ghost use Rattle.al_pattern.specs.Reading.{tree_of, first_fault, IsFirstFault, fault_named, reading};
@@ -41,6 +41,8 @@ impl Pattern {
     pub fn read(alloc: Global, text: &[u8]) -> Result<Self, PatternFault>
         // What is read is a pattern: the text is the spelling of its tree.
         ensures found { IfOk result (λ p. (p ≡ text.now) × IsSpelled (tree_of p) p) }
+        // What is a pattern is read, unless memory runs out.
+        ensures only { (tree : Choice) → IsSpelled tree text.now → IsOkUnless result PatternFault.Memory }
         // An error is the first fault, and what is read has none.
         ensures fault { MatchResult result (λ p. first_fault text.now ≡ None) (λ e. IsFirstFault text.now e) }
     {
