@@ -1,5 +1,5 @@
 -- Cutting a list, and what a quantifier says of a list with a first character.
-use Rattle.std.proofs.Common.{◌≡◌, ◌≢◌, ℕ, Bool, true, false, ◌&&◌, ◌||◌, ◌⊎◌, inl, inr, List, [], ◌∷◌, ◌++◌, refl, ap, sym, ◌∙◌, subst, append_assoc}
+use Rattle.std.proofs.Common.{◌≡◌, ℕ, Bool, true, false, ◌&&◌, ◌||◌, ◌⊎◌, inl, inr, List, [], ◌∷◌, ◌++◌, refl, ap, sym, ◌∙◌, subst}
 use Rattle.std.specs.List.{concat}
 use Rattle.std.proofs.lemmas.List.{append-nil}
 use Rattle.al_pattern.specs.declared.token.Quantifier.{Quantifier}
@@ -69,8 +69,9 @@ quantified_first Optional Takes c text (inl e) = absurd (cc)
 quantified_first Optional Takes c text (inr taken) = record { front = text; back = []; parts = sym (append-nil text); taken = taken; after = refl }
 quantified_first Star Takes c text repeated = repeated_first Takes c text repeated
 quantified_first Plus Takes c text (front, back, e, taken, repeated) = elim (cut c text front back e) [
-    inl h ↦ repeated_first Takes c text (subst (IsRepeated Takes) h.1 repeated)
-  | inr h ↦ record { front = h.0; back = back; parts = h.2; taken = subst Takes h.1 taken; after = repeated } ]
+  | inl h ↦ repeated_first Takes c text (subst (IsRepeated Takes) h.1 repeated)
+  | inr h ↦ record { front = h.0; back = back; parts = h.2; taken = subst Takes h.1 taken; after = repeated }
+]
 
 pub quantified_more : (q : Quantifier) (Takes : List ℕ → Type 0) (c : ℕ) (front back : List ℕ) → Takes (c ∷ front) → IsAfter q Takes back → IsQuantified q Takes (c ∷ (front ++ back))
 quantified_more Once Takes c front back taken after = subst (λ t. Takes (c ∷ t)) (sym (ap (λ b. front ++ b) after ∙ append-nil front)) taken
@@ -124,20 +125,25 @@ pub record Ends (final : Bool) (Completes : List ℕ → Type 0) : Type 0 where
   pub back : Completes [] → final ≡ true
 
 pub piece_moves : (c : ℕ) (q : Quantifier) (enter final : Bool) (Takes Completes Completes' : List ℕ → Type 0)
-  → Moves c (enter || (may_repeat q && final)) Takes Completes Completes' → Ends final Completes
-  → Moves c enter (IsQuantified q Takes) (CompletesPiece q Takes Completes) (CompletesPiece q Takes Completes')
+    → Moves c (enter || (may_repeat q && final)) Takes Completes Completes' → Ends final Completes
+    → Moves c enter (IsQuantified q Takes) (CompletesPiece q Takes Completes) (CompletesPiece q Takes Completes')
 piece_moves c q enter final Takes Completes Completes' moves ends = record {
   on = λ text. elim [
-    inl h ↦ let f = quantified_first q Takes c text h.1 in
-      (f.front, f.back, f.parts, moves.on f.front (inl (or_left enter (may_repeat q && final) h.0, f.taken)), f.after)
-  | inr h ↦ elim (cut c text h.0 h.1 h.2) [
-      inl k ↦ let a = after_first q Takes c text (subst (IsAfter q Takes) k.1 h.4) in
-        let again : (enter || (may_repeat q && final)) ≡ true = or_right enter (may_repeat q && final) (true_and (may_repeat q) final a.0 (ends.back (subst Completes k.0 h.3))) in
-        (a.1.front, a.1.back, a.1.parts, moves.on a.1.front (inl (again, a.1.taken)), a.1.after)
-    | inr k ↦ (k.0, h.1, k.2, moves.on k.0 (inr (subst Completes k.1 h.3)), h.4) ] ];
+    | inl h ↦ let f = quantified_first q Takes c text h.1 in
+        (f.front, f.back, f.parts, moves.on f.front (inl (or_left enter (may_repeat q && final) h.0, f.taken)), f.after)
+    | inr h ↦ elim (cut c text h.0 h.1 h.2) [
+      | inl k ↦ let a = after_first q Takes c text (subst (IsAfter q Takes) k.1 h.4) in
+          let again : (enter || (may_repeat q && final)) ≡ true = or_right enter (may_repeat q && final) (true_and (may_repeat q) final a.0 (ends.back (subst Completes k.0 h.3))) in
+          (a.1.front, a.1.back, a.1.parts, moves.on a.1.front (inl (again, a.1.taken)), a.1.after)
+      | inr k ↦ (k.0, h.1, k.2, moves.on k.0 (inr (subst Completes k.1 h.3)), h.4)
+    ]
+  ];
   back = λ text h. elim (moves.back h.0 h.3) [
-    inl k ↦ elim (or_true enter (may_repeat q && final) k.0) [
-      inl e ↦ inl (e, subst (λ t. IsQuantified q Takes (c ∷ t)) (sym h.2) (quantified_more q Takes c h.0 h.1 k.1 h.4))
-    | inr r ↦ let both = and_true (may_repeat q) final r in
-        inr ([], c ∷ text, refl, ends.on both.1, subst (λ t. IsAfter q Takes (c ∷ t)) (sym h.2) (after_more q Takes c h.0 h.1 both.0 k.1 h.4)) ]
-  | inr k ↦ inr (c ∷ h.0, h.1, ap (λ t. c ∷ t) h.2, k, h.4) ] }
+    | inl k ↦ elim (or_true enter (may_repeat q && final) k.0) [
+      | inl e ↦ inl (e, subst (λ t. IsQuantified q Takes (c ∷ t)) (sym h.2) (quantified_more q Takes c h.0 h.1 k.1 h.4))
+      | inr r ↦ let both = and_true (may_repeat q) final r in
+          inr ([], c ∷ text, refl, ends.on both.1, subst (λ t. IsAfter q Takes (c ∷ t)) (sym h.2) (after_more q Takes c h.0 h.1 both.0 k.1 h.4))
+    ]
+    | inr k ↦ inr (c ∷ h.0, h.1, ap (λ t. c ∷ t) h.2, k, h.4)
+  ];
+}

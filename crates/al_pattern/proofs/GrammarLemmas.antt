@@ -1,13 +1,11 @@
 -- What is read is spelled so, and is a pattern.
-use Rattle.std.proofs.Common.{◌≡◌, ◌≢◌, ◌≤◌, ◌<◌, ◌+◌, ℕ, zero, suc, Bool, true, false, ◌&&◌, List, [], ◌∷◌, ◌++◌, length, max, Result, Ok, Err, IfOk, refl, ap, sym, ◌∙◌, subst, append_assoc, arith}
+use Rattle.std.proofs.Common.{◌≡◌, ◌≤◌, ◌<◌, ◌+◌, ℕ, zero, suc, true, ◌&&◌, List, [], ◌∷◌, ◌++◌, length, max, IfOk, refl, ap, sym, ◌∙◌, subst, append_assoc, arith}
 use Rattle.std.proofs.lemmas.List.{append-nil}
-use Rattle.al_pattern.specs.declared.fault.Fault.{Fault}
 use Rattle.al_pattern.specs.declared.token.Quantifier.{Quantifier}
-use Rattle.al_pattern.specs.Faults.{◌>>=◌}
-use Rattle.al_pattern.specs.Tests.{Test, test_spelling, is_test}
-use Rattle.al_pattern.specs.Trees.{Choice, single, either, Branch, nothing, followed, Atom, character, group, quantifier_spelling, quantifier_nodes, choice_spelling, branch_spelling, atom_spelling, choice_nodes, branch_nodes, atom_nodes, choice_depth, branch_depth, atom_depth, is_choice, is_branch, is_atom, IsPattern, IsSpelled}
+use Rattle.al_pattern.specs.Tests.{test_spelling}
+use Rattle.al_pattern.specs.Trees.{Choice, single, either, Atom, character, group, quantifier_spelling, quantifier_nodes, choice_spelling, branch_spelling, atom_spelling, choice_nodes, atom_nodes, choice_depth, atom_depth, is_choice, is_branch, is_atom, IsSpelled}
 use Rattle.al_pattern.specs.Tokens.{Sign, bar, open_group, close_group, one, token_at}
-use Rattle.al_pattern.specs.Reading.{Progress, start, with_atom, closed, put, ended, read_from, reading}
+use Rattle.al_pattern.specs.Reading.{Progress, start, with_atom, put, ended, read_from, reading}
 use Rattle.al_pattern.proofs.CutLemmas.{and_true, true_and}
 use Rattle.al_pattern.proofs.TestLemmas.{bind_read}
 use Rattle.al_pattern.proofs.TokenLemmas.{sign_spelling, sign_nodes, is_sign, FitsAt, TokenRead, token_found}
@@ -62,62 +60,79 @@ pub record Adds (sign : Sign) (p : Progress) (nodes' : ℕ) : Type 0 where
   pub good : IsProgress (put sign p).top (put sign p).outer nodes'
 
 close_adds : (q : Quantifier) (top : Choice) (outer : List Choice) (nodes nodes' : ℕ) → IsProgress top outer nodes → 0 < length outer → nodes' ≡ nodes + quantifier_nodes q → nodes' ≤ 256
-  → Adds (close_group q) (record { top = top; outer = outer }) nodes'
+    → Adds (close_group q) (record { top = top; outer = outer }) nodes'
 close_adds q top [] nodes nodes' good some count few = absurd (omega arith)
 close_adds q top (around ∷ outer) nodes nodes' good some count few = record {
   spelled = ap (λ t. outer_spelling outer ++ t) (choice_spelling-with_atom around (group top) q)
-    ∙ simp append_assoc;
+      ∙ simp append_assoc;
   good = record {
     written = written_with_atom around (group top) q good.around.0 good.written;
     deep = let k : choice_depth (with_atom around (group top) q) ≤ max (choice_depth around) (atom_depth (group top)) =
         depth_with_atom around (group top) q (max (choice_depth around) (atom_depth (group top))) (omega arith) (omega arith) in
-      omega (arith, k, good.around.1, good.deep);
+        omega (arith, k, good.around.1, good.deep);
     around = good.around.2;
     count = omega (arith, count, good.count, choice_nodes-with_atom around (group top) q);
-    few = few } }
+    few = few;
+  };
+}
 
 pub token_adds : (sign : Sign) (p : Progress) (nodes nodes' : ℕ) → IsProgress p.top p.outer nodes → FitsAt (length p.outer) sign → is_sign sign ≡ true
-  → nodes' ≡ nodes + sign_nodes sign → nodes' ≤ 256 → Adds sign p nodes'
+    → nodes' ≡ nodes + sign_nodes sign → nodes' ≤ 256 → Adds sign p nodes'
 token_adds bar p nodes nodes' good fits written count few = record {
   spelled = sym (append_assoc (outer_spelling p.outer) (choice_spelling p.top) (124 ∷ []));
-  good = record { written = true_and (is_choice p.top) true good.written refl; deep = omega (arith, good.deep); around = good.around;
-    count = omega (arith, count, good.count); few = few } }
+  good = record {
+    written = true_and (is_choice p.top) true good.written refl;
+    deep = omega (arith, good.deep);
+    around = good.around;
+    count = omega (arith, count, good.count);
+    few = few;
+  };
+}
 token_adds open_group p nodes nodes' good fits written count few = record {
   spelled = append-nil (outer_spelling p.outer ++ (choice_spelling p.top ++ 40 ∷ [])) ∙ sym (append_assoc (outer_spelling p.outer) (choice_spelling p.top) (40 ∷ []));
-  good = record { written = refl; deep = omega (arith, fits); around = (good.written, good.deep, good.around);
-    count = omega (arith, count, good.count); few = few } }
+  good = record {
+    written = refl;
+    deep = omega (arith, fits);
+    around = (good.written, good.deep, good.around);
+    count = omega (arith, count, good.count);
+    few = few;
+  };
+}
 token_adds (close_group q) p nodes nodes' good fits written count few = close_adds q p.top p.outer nodes nodes' good fits count few
 token_adds (one t q) p nodes nodes' good fits written count few = record {
   spelled = ap (λ s. outer_spelling p.outer ++ s) (choice_spelling-with_atom p.top (character t) q)
-    ∙ sym (append_assoc (outer_spelling p.outer) (choice_spelling p.top) (test_spelling t ++ quantifier_spelling q));
+      ∙ sym (append_assoc (outer_spelling p.outer) (choice_spelling p.top) (test_spelling t ++ quantifier_spelling q));
   good = record {
     written = written_with_atom p.top (character t) q good.written written;
     deep = let k = depth_with_atom p.top (character t) q (choice_depth p.top) (omega arith) (omega arith) in omega (arith, k, good.deep);
     around = good.around;
     count = omega (arith, count, good.count, choice_nodes-with_atom p.top (character t) q);
-    few = few } }
+    few = few;
+  };
+}
 
 end_found : (top : Choice) (outer : List Choice) (nodes : ℕ) → IsProgress top outer nodes
-  → IfOk (ended top outer) (λ tree. IsSpelled tree (outer_spelling outer ++ choice_spelling top))
+    → IfOk (ended top outer) (λ tree. IsSpelled tree (outer_spelling outer ++ choice_spelling top))
 end_found top [] nodes good = record {
   pattern = record { written = good.written; few_nodes = omega (arith, good.count, good.few); few_groups = omega (arith, good.deep) };
-  spelled = refl }
+  spelled = refl;
+}
 end_found top (around ∷ outer) nodes good = tt
 
 pub found_from : (steps nodes : ℕ) (p : Progress) (text : List ℕ) → IsProgress p.top p.outer nodes
-  → IfOk (read_from steps nodes p text) (λ tree. IsSpelled tree (progress_spelling p ++ text))
+    → IfOk (read_from steps nodes p text) (λ tree. IsSpelled tree (progress_spelling p ++ text))
 unfolding read_from
 found_from steps nodes p [] good =
     subst (λ t. IfOk (ended p.top p.outer) (λ tree. IsSpelled tree t)) (sym (append-nil (progress_spelling p))) (end_found p.top p.outer nodes good)
 found_from zero nodes p (b ∷ rest) good = tt
 found_from (suc steps) nodes p (b ∷ rest) good =
     bind_read (λ x. TokenRead (length p.outer) nodes (b ∷ rest) x.0 x.1 x.2) (λ tree. IsSpelled tree (progress_spelling p ++ b ∷ rest))
-      (token_at (length p.outer) nodes (b ∷ rest)) (λ x. read_from steps x.1 (put x.0 p) x.2) (token_found (length p.outer) nodes (b ∷ rest) good.few)
-      (λ x r.
-        let more = token_adds x.0 p nodes x.1 good r.fits r.written r.count r.few in
-        let whole : progress_spelling (put x.0 p) ++ x.2 ≡ progress_spelling p ++ b ∷ rest =
-          ap (λ t. t ++ x.2) more.spelled ∙ append_assoc (progress_spelling p) (sign_spelling x.0) x.2 ∙ ap (λ t. progress_spelling p ++ t) (sym r.spelled) in
-        subst (λ t. IfOk (read_from steps x.1 (put x.0 p) x.2) (λ tree. IsSpelled tree t)) whole (found_from steps x.1 (put x.0 p) x.2 more.good))
+    (token_at (length p.outer) nodes (b ∷ rest)) (λ x. read_from steps x.1 (put x.0 p) x.2) (token_found (length p.outer) nodes (b ∷ rest) good.few)
+    (λ x r.
+    let more = token_adds x.0 p nodes x.1 good r.fits r.written r.count r.few in
+    let whole : progress_spelling (put x.0 p) ++ x.2 ≡ progress_spelling p ++ b ∷ rest =
+    ap (λ t. t ++ x.2) more.spelled ∙ append_assoc (progress_spelling p) (sign_spelling x.0) x.2 ∙ ap (λ t. progress_spelling p ++ t) (sym r.spelled) in
+    subst (λ t. IfOk (read_from steps x.1 (put x.0 p) x.2) (λ tree. IsSpelled tree t)) whole (found_from steps x.1 (put x.0 p) x.2 more.good))
 
 -- what is read is a pattern, and the text is its spelling
 pub reading_found : (text : List ℕ) → IfOk (reading text) (λ tree. IsSpelled tree text)

@@ -3,10 +3,10 @@ use Rattle.std.proofs.Common.{◌≡◌, ℕ, Bool, true, false, ◌&&◌, ◌||
 use Rattle.al_pattern.specs.declared.token.Quantifier.{Quantifier}
 use Rattle.al_pattern.specs.declared.token.Quantifier.TheVariants.{Once, Optional, Star, Plus}
 use Rattle.al_pattern.specs.declared.walk.Level.{Level}
-use Rattle.al_pattern.specs.Tests.{Test, is_allowed}
+use Rattle.al_pattern.specs.Tests.{is_allowed}
 use Rattle.al_pattern.specs.Trees.{Choice, single, either, Branch, nothing, followed, Atom, character, group}
-use Rattle.al_pattern.specs.Language.{IsRepeated, IsQuantified, IsInLanguage, IsInBranch, IsInAtom}
-use Rattle.al_pattern.specs.Walk.{begun, may_enter, behind_atom, at_bar, has_ended, takes_nothing, may_skip, may_repeat}
+use Rattle.al_pattern.specs.Language.{IsRepeated, IsQuantified, IsInAtom}
+use Rattle.al_pattern.specs.Walk.{begun, at_bar, may_skip, may_repeat}
 
 -- a mark for each test
 abbrev mutual
@@ -101,7 +101,8 @@ branch_level l b olds news = record {
   done = branch_final l.done b news;
   empty = branch_nullable l.empty b;
   ended = l.ended;
-  skipped = l.skipped }
+  skipped = l.skipped;
+}
 
 abbrev pub choice_level : Bool → (x : Choice) → ChoiceMarks x → ChoiceMarks x → Level
 choice_level begins (single b) olds news = branch_level (begun begins) b olds news

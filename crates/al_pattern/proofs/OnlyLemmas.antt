@@ -1,18 +1,15 @@
 -- What is spelled so is read again: tokens and whole patterns. So a text has one tree.
-use Rattle.std.proofs.Common.{◌≡◌, ◌≢◌, ◌≤◌, ◌<◌, ◌+◌, ◌-◌, ℕ, zero, suc, Bool, true, false, not, cond, ◌&&◌, ◌||◌, ◌==◌, nat_lt, List, [], ◌∷◌, ◌++◌, length, max, Option, Some, None, Result, Ok, Err, refl, ap, sym, ◌∙◌, subst, append_assoc, length-append, arith}
+use Rattle.std.proofs.Common.{◌≡◌, ◌≤◌, ◌<◌, ◌+◌, ℕ, zero, suc, true, false, not, ◌==◌, nat_lt, List, [], ◌∷◌, ◌++◌, length, Option, Some, None, Ok, refl, ap, sym, ◌∙◌, subst, append_assoc, length-append, arith}
 use Rattle.std.proofs.lemmas.List.{append-nil}
 use Rattle.std.proofs.lemmas.Bool.Decides.{nat_tests}
-use Rattle.al_pattern.specs.declared.fault.Fault.{Fault}
 use Rattle.al_pattern.specs.declared.letter.Letter.TheVariants.{Plain, Escaped}
 use Rattle.al_pattern.specs.declared.token.Quantifier.{Quantifier}
-use Rattle.al_pattern.specs.declared.token.Quantifier.TheVariants.{Once, Optional, Star, Plus}
-use Rattle.al_pattern.specs.Bytes.{among, is_printable, is_char, is_left_out, begins_with}
+use Rattle.al_pattern.specs.Bytes.{among, is_printable, is_char, is_left_out}
 use Rattle.al_pattern.specs.Faults.{◌>>=◌}
 use Rattle.al_pattern.specs.Tests.{Test, letter, dot, digit, space, class, test_spelling, is_test}
-use Rattle.al_pattern.specs.Classes.{begins_left_out}
-use Rattle.al_pattern.specs.Trees.{Choice, single, either, Branch, nothing, followed, Atom, character, group, quantifier_spelling, quantifier_nodes, choice_spelling, branch_spelling, atom_spelling, choice_nodes, branch_nodes, atom_nodes, choice_depth, branch_depth, atom_depth, is_choice, is_branch, is_atom, IsPattern, IsSpelled}
-use Rattle.al_pattern.specs.Tokens.{Sign, bar, open_group, close_group, one, is_unsupported, begins_node, test_at, quantifier_of, quantifier_at, close_at, one_at, counted, token_at}
-use Rattle.al_pattern.specs.Reading.{Progress, start, with_atom, put, ended, read_from, reading, tree_of, tree_or_empty, first_fault, fault_or_none}
+use Rattle.al_pattern.specs.Trees.{Choice, single, either, Branch, nothing, followed, Atom, character, group, quantifier_spelling, quantifier_nodes, choice_spelling, branch_spelling, atom_spelling, choice_nodes, branch_nodes, atom_nodes, choice_depth, branch_depth, atom_depth, is_choice, is_branch, is_atom, IsSpelled}
+use Rattle.al_pattern.specs.Tokens.{Sign, bar, open_group, close_group, one, is_unsupported, begins_node, quantifier_of, quantifier_at, one_at, token_at}
+use Rattle.al_pattern.specs.Reading.{Progress, start, with_atom, put, read_from, reading, tree_of, tree_or_empty, first_fault, fault_or_none}
 use Rattle.al_pattern.proofs.CutLemmas.{and_true}
 use Rattle.al_pattern.proofs.TestLemmas.{differs}
 use Rattle.al_pattern.proofs.AgainLemmas.{no_quantifier, quantifier_again, escape_kept, test_again}
@@ -37,13 +34,16 @@ slash_head b rest e = record { first = 92; rest = b ∷ rest; whole = refl; supp
 char_head : (b : ℕ) (rest : List ℕ) → is_char b ≡ true → Head (b ∷ rest)
 unfolding is_unsupported is_char
 char_head b rest e = record {
-  first = b; rest = rest; whole = refl;
+  first = b;
+  rest = rest;
+  whole = refl;
   supported = rw ((and_true (is_printable b) (not (among (46 ∷ 92 ∷ 63 ∷ 42 ∷ 43 ∷ 40 ∷ 41 ∷ 124 ∷ 91 ∷ 93 ∷ 123 ∷ 125 ∷ []) b)) e).0, differs is_char b 123 e refl, differs is_char b 92 e refl) refl;
   begins = rw e refl;
   no_close = differs is_char b 41 e refl;
   no_open = differs is_char b 40 e refl;
   no_bar = differs is_char b 124 e refl;
-  none = rw (differs is_char b 63 e refl, differs is_char b 42 e refl, differs is_char b 43 e refl) refl }
+  none = rw (differs is_char b 63 e refl, differs is_char b 42 e refl, differs is_char b 43 e refl) refl;
+}
 
 dot_head : (rest : List ℕ) → Head (46 ∷ rest)
 unfolding is_unsupported is_char
@@ -83,13 +83,13 @@ unfolding token_at is_unsupported is_char
 token_open depth nodes rest le deep = rw (below nodes 256 le, below depth 16 (omega arith)) refl
 
 token_close : (depth nodes : ℕ) (q : Quantifier) (rest : List ℕ) → nodes + quantifier_nodes q ≤ 256 → 0 < depth → no_quantifier rest
-  → token_at depth nodes (41 ∷ (quantifier_spelling q ++ rest)) ≡ Ok (close_group q, nodes + quantifier_nodes q, rest)
+    → token_at depth nodes (41 ∷ (quantifier_spelling q ++ rest)) ≡ Ok (close_group q, nodes + quantifier_nodes q, rest)
 unfolding token_at is_unsupported is_char
 token_close depth nodes q rest le deep none =
     rw (not_zero depth deep) (ap (λ r. r >>= λ x. Ok (close_group x.0, x.1, x.2)) (quantifier_again q nodes rest le none))
 
 token_head : (depth nodes b : ℕ) (rest : List ℕ) → is_unsupported (b ∷ rest) ≡ false → (b == 41) ≡ false → begins_node b ≡ true → (b == 124) ≡ false → (b == 40) ≡ false
-  → nodes + 1 ≤ 256 → token_at depth nodes (b ∷ rest) ≡ one_at nodes (b ∷ rest)
+    → nodes + 1 ≤ 256 → token_at depth nodes (b ∷ rest) ≡ one_at nodes (b ∷ rest)
 unfolding token_at
 token_head depth nodes b rest supported no_close begins no_bar no_open room = rw (supported, no_close, begins, below nodes 256 room, no_bar, no_open) refl
 
@@ -99,16 +99,16 @@ token_test depth nodes text h room =
     subst P (sym h.whole) (token_head depth nodes h.first h.rest h.supported h.no_close h.begins h.no_bar h.no_open room)
 
 token_one : (depth nodes : ℕ) (t : Test) (q : Quantifier) (rest : List ℕ) → is_test t ≡ true → nodes + (1 + quantifier_nodes q) ≤ 256 → no_quantifier rest
-  → token_at depth nodes (test_spelling t ++ (quantifier_spelling q ++ rest)) ≡ Ok (one t q, nodes + (1 + quantifier_nodes q), rest)
+    → token_at depth nodes (test_spelling t ++ (quantifier_spelling q ++ rest)) ≡ Ok (one t q, nodes + (1 + quantifier_nodes q), rest)
 token_one depth nodes t q rest e le none =
     let back = quantifier_spelling q ++ rest in
     let count : nodes + 1 + quantifier_nodes q ≡ nodes + (1 + quantifier_nodes q) = omega arith in
     let first : token_at depth nodes (test_spelling t ++ back) ≡ one_at nodes (test_spelling t ++ back) =
-      token_test depth nodes (test_spelling t ++ back) (test_head t back e) (omega arith) in
+    token_test depth nodes (test_spelling t ++ back) (test_head t back e) (omega arith) in
     let second : one_at nodes (test_spelling t ++ back) ≡ (quantifier_at (nodes + 1) back >>= λ y. Ok (one t y.0, y.1, y.2)) =
-      ap (λ r. r >>= λ x. quantifier_at (nodes + 1) x.1 >>= λ y. Ok (one x.0 y.0, y.1, y.2)) (test_again t back e) in
+    ap (λ r. r >>= λ x. quantifier_at (nodes + 1) x.1 >>= λ y. Ok (one x.0 y.0, y.1, y.2)) (test_again t back e) in
     let third : (quantifier_at (nodes + 1) back >>= λ y. Ok (one t y.0, y.1, y.2)) ≡ Ok (one t q, nodes + 1 + quantifier_nodes q, rest) =
-      ap (λ r. r >>= λ y. Ok (one t y.0, y.1, y.2)) (quantifier_again q (nodes + 1) rest (omega arith) none) in
+    ap (λ r. r >>= λ y. Ok (one t y.0, y.1, y.2)) (quantifier_again q (nodes + 1) rest (omega arith) none) in
     first ∙ second ∙ third ∙ ap (λ (n : ℕ). Ok (one t q, n, rest)) count
 
 -- ---- whole patterns
@@ -124,7 +124,7 @@ leads_on n m k p q r text middle rest f g steps le =
     (b.0, b.1, a.2 ∙ b.2)
 
 leads_token : (nodes nodes' : ℕ) (p : Progress) (text : List ℕ) (sign : Sign) (rest : List ℕ) → token_at (length p.outer) nodes text ≡ Ok (sign, nodes', rest) → length rest < length text
-  → Leads nodes p text nodes' (put sign p) rest
+    → Leads nodes p text nodes' (put sign p) rest
 unfolding read_from
 leads_token nodes nodes' p [] sign rest e shorter steps le = absurd (omega arith)
 leads_token nodes nodes' p (b ∷ text) sign rest e shorter zero le = absurd (omega arith)
@@ -154,27 +154,27 @@ atom_none (group x) rest e = refl
 
 mutual
   leads_choice : (x : Choice) (outer : List Choice) (nodes : ℕ) (rest : List ℕ) → is_choice x ≡ true → nodes + choice_nodes x ≤ 256 → choice_depth x + length outer ≤ 16
-    → no_quantifier rest → Leads nodes (at (single nothing) outer) (choice_spelling x ++ rest) (nodes + choice_nodes x) (at x outer) rest
+      → no_quantifier rest → Leads nodes (at (single nothing) outer) (choice_spelling x ++ rest) (nodes + choice_nodes x) (at x outer) rest
   leads_choice (single b) outer nodes rest e few deep none = leads_branch b None outer nodes rest e few deep none
   leads_choice (either x b) outer nodes rest e few deep none =
       let both = and_true (is_choice x) (is_branch b) e in
       let tail = branch_spelling b ++ rest in
       let first = leads_choice x outer nodes (124 ∷ tail) both.0 (omega arith) (omega arith) refl in
       let middle = leads_token (nodes + choice_nodes x) (nodes + choice_nodes x + 1) (at x outer) (124 ∷ tail) bar tail
-        (token_bar (length outer) (nodes + choice_nodes x) tail (omega arith)) (omega arith) in
+      (token_bar (length outer) (nodes + choice_nodes x) tail (omega arith)) (omega arith) in
       let last = leads_branch b (Some x) outer (nodes + choice_nodes x + 1) rest both.1 (omega arith) (omega arith) none in
       let count : nodes + choice_nodes x + 1 + branch_nodes b ≡ nodes + (choice_nodes x + 1 + branch_nodes b) = omega arith in
       subst (λ n. Leads nodes (at (single nothing) outer) ((choice_spelling x ++ 124 ∷ branch_spelling b) ++ rest) n (at (either x b) outer) rest) count
-        (subst (λ t. Leads nodes (at (single nothing) outer) t (nodes + choice_nodes x + 1 + branch_nodes b) (at (either x b) outer) rest)
-          (sym (append_assoc (choice_spelling x) (124 ∷ branch_spelling b) rest))
-          (leads_on nodes (nodes + choice_nodes x) (nodes + choice_nodes x + 1 + branch_nodes b) (at (single nothing) outer) (at x outer) (at (either x b) outer)
-            (choice_spelling x ++ 124 ∷ tail) (124 ∷ tail) rest first
-            (leads_on (nodes + choice_nodes x) (nodes + choice_nodes x + 1) (nodes + choice_nodes x + 1 + branch_nodes b) (at x outer) (at (either x nothing) outer) (at (either x b) outer)
-              (124 ∷ tail) tail rest middle last)))
+      (subst (λ t. Leads nodes (at (single nothing) outer) t (nodes + choice_nodes x + 1 + branch_nodes b) (at (either x b) outer) rest)
+      (sym (append_assoc (choice_spelling x) (124 ∷ branch_spelling b) rest))
+      (leads_on nodes (nodes + choice_nodes x) (nodes + choice_nodes x + 1 + branch_nodes b) (at (single nothing) outer) (at x outer) (at (either x b) outer)
+      (choice_spelling x ++ 124 ∷ tail) (124 ∷ tail) rest first
+      (leads_on (nodes + choice_nodes x) (nodes + choice_nodes x + 1) (nodes + choice_nodes x + 1 + branch_nodes b) (at x outer) (at (either x nothing) outer) (at (either x b) outer)
+      (124 ∷ tail) tail rest middle last)))
 
   leads_branch : (b : Branch) (o : Option Choice) (outer : List Choice) (nodes : ℕ) (rest : List ℕ) → is_branch b ≡ true → nodes + branch_nodes b ≤ 256
-    → branch_depth b + length outer ≤ 16 → no_quantifier rest
-    → Leads nodes (at (ending o nothing) outer) (branch_spelling b ++ rest) (nodes + branch_nodes b) (at (ending o b) outer) rest
+      → branch_depth b + length outer ≤ 16 → no_quantifier rest
+      → Leads nodes (at (ending o nothing) outer) (branch_spelling b ++ rest) (nodes + branch_nodes b) (at (ending o b) outer) rest
   leads_branch nothing o outer nodes rest e few deep none =
       let count : nodes ≡ nodes + 0 = omega arith in
       λ steps le. (steps, le, ap (λ (n : ℕ). read_from steps n (at (ending o nothing) outer) rest) count)
@@ -186,21 +186,21 @@ mutual
       let last = leads_atom a q (ending o b) outer (nodes + branch_nodes b) rest both.1 (omega arith) (omega arith) none in
       let count : nodes + branch_nodes b + (atom_nodes a + quantifier_nodes q) ≡ nodes + (branch_nodes b + (atom_nodes a + quantifier_nodes q)) = omega arith in
       subst (λ n. Leads nodes (at (ending o nothing) outer) ((branch_spelling b ++ (atom_spelling a ++ quantifier_spelling q)) ++ rest) n (at (ending o (followed b a q)) outer) rest) count
-        (subst (λ t. Leads nodes (at (ending o nothing) outer) t (nodes + branch_nodes b + (atom_nodes a + quantifier_nodes q)) (at (ending o (followed b a q)) outer) rest)
-          (sym (append_assoc (branch_spelling b) (atom_spelling a ++ quantifier_spelling q) rest))
-          (subst (λ x. Leads nodes (at (ending o nothing) outer) (branch_spelling b ++ tail) (nodes + branch_nodes b + (atom_nodes a + quantifier_nodes q)) (at x outer) rest) (ending_with o b a q)
-            (leads_on nodes (nodes + branch_nodes b) (nodes + branch_nodes b + (atom_nodes a + quantifier_nodes q)) (at (ending o nothing) outer) (at (ending o b) outer)
-              (at (with_atom (ending o b) a q) outer) (branch_spelling b ++ tail) tail rest first last)))
+      (subst (λ t. Leads nodes (at (ending o nothing) outer) t (nodes + branch_nodes b + (atom_nodes a + quantifier_nodes q)) (at (ending o (followed b a q)) outer) rest)
+      (sym (append_assoc (branch_spelling b) (atom_spelling a ++ quantifier_spelling q) rest))
+      (subst (λ x. Leads nodes (at (ending o nothing) outer) (branch_spelling b ++ tail) (nodes + branch_nodes b + (atom_nodes a + quantifier_nodes q)) (at x outer) rest) (ending_with o b a q)
+      (leads_on nodes (nodes + branch_nodes b) (nodes + branch_nodes b + (atom_nodes a + quantifier_nodes q)) (at (ending o nothing) outer) (at (ending o b) outer)
+      (at (with_atom (ending o b) a q) outer) (branch_spelling b ++ tail) tail rest first last)))
 
   leads_atom : (a : Atom) (q : Quantifier) (top : Choice) (outer : List Choice) (nodes : ℕ) (rest : List ℕ) → is_atom a ≡ true → nodes + (atom_nodes a + quantifier_nodes q) ≤ 256
-    → atom_depth a + length outer ≤ 16 → no_quantifier rest
-    → Leads nodes (at top outer) ((atom_spelling a ++ quantifier_spelling q) ++ rest) (nodes + (atom_nodes a + quantifier_nodes q)) (at (with_atom top a q) outer) rest
+      → atom_depth a + length outer ≤ 16 → no_quantifier rest
+      → Leads nodes (at top outer) ((atom_spelling a ++ quantifier_spelling q) ++ rest) (nodes + (atom_nodes a + quantifier_nodes q)) (at (with_atom top a q) outer) rest
   leads_atom (character t) q top outer nodes rest e few deep none =
       subst (λ s. Leads nodes (at top outer) s (nodes + (1 + quantifier_nodes q)) (at (with_atom top (character t) q) outer) rest)
-        (sym (append_assoc (test_spelling t) (quantifier_spelling q) rest))
-        (leads_token nodes (nodes + (1 + quantifier_nodes q)) (at top outer) (test_spelling t ++ (quantifier_spelling q ++ rest)) (one t q) rest
-          (token_one (length outer) nodes t q rest e few none)
-          (omega (arith, test_takes t (quantifier_spelling q ++ rest) e, length-append (quantifier_spelling q) rest)))
+      (sym (append_assoc (test_spelling t) (quantifier_spelling q) rest))
+      (leads_token nodes (nodes + (1 + quantifier_nodes q)) (at top outer) (test_spelling t ++ (quantifier_spelling q ++ rest)) (one t q) rest
+      (token_one (length outer) nodes t q rest e few none)
+      (omega (arith, test_takes t (quantifier_spelling q ++ rest) e, length-append (quantifier_spelling q) rest)))
   leads_atom (group x) q top outer nodes rest e few deep none =
       let back = quantifier_spelling q ++ rest in
       let inner = choice_spelling x ++ (41 ∷ back) in
@@ -211,12 +211,12 @@ mutual
       let first = leads_token nodes n1 (at top outer) (40 ∷ inner) open_group inner (token_open (length outer) nodes inner (omega arith) (omega arith)) (omega arith) in
       let middle = leads_choice x (top ∷ outer) n1 (41 ∷ back) e (omega arith) (omega arith) refl in
       let last = leads_token n2 n3 (at x (top ∷ outer)) (41 ∷ back) (close_group q) rest (token_close (suc (length outer)) n2 q rest (omega arith) (omega arith) none)
-        (omega (arith, length-append (quantifier_spelling q) rest)) in
+      (omega (arith, length-append (quantifier_spelling q) rest)) in
       let count : n3 ≡ nodes + (1 + choice_nodes x + quantifier_nodes q) = omega arith in
       subst (λ n. Leads nodes (at top outer) (((40 ∷ (choice_spelling x ++ 41 ∷ [])) ++ quantifier_spelling q) ++ rest) n (at (with_atom top (group x) q) outer) rest) count
-        (subst (λ s. Leads nodes (at top outer) s n3 (at (with_atom top (group x) q) outer) rest) (sym regroup)
-          (leads_on nodes n1 n3 (at top outer) (at (single nothing) (top ∷ outer)) (at (with_atom top (group x) q) outer) (40 ∷ inner) inner rest first
-            (leads_on n1 n2 n3 (at (single nothing) (top ∷ outer)) (at x (top ∷ outer)) (at (with_atom top (group x) q) outer) inner (41 ∷ back) rest middle last)))
+      (subst (λ s. Leads nodes (at top outer) s n3 (at (with_atom top (group x) q) outer) rest) (sym regroup)
+      (leads_on nodes n1 n3 (at top outer) (at (single nothing) (top ∷ outer)) (at (with_atom top (group x) q) outer) (40 ∷ inner) inner rest first
+      (leads_on n1 n2 n3 (at (single nothing) (top ∷ outer)) (at x (top ∷ outer)) (at (with_atom top (group x) q) outer) inner (41 ∷ back) rest middle last)))
 
 read_at_end : (steps nodes : ℕ) (tree : Choice) → read_from steps nodes (at tree []) [] ≡ Ok tree
 unfolding read_from

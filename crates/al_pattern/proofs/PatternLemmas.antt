@@ -1,5 +1,5 @@
 -- A compiled text is ready.
-use Rattle.std.proofs.Common.{◌≡◌, ◌↔◌, ℕ, Bool, true, List, [], map, Option, Some, None, Result, Ok, Err, IfOk, refl, ap, sym, ◌∙◌, subst}
+use Rattle.std.proofs.Common.{◌≡◌, ◌↔◌, ℕ, Bool, true, List, [], Some, None, Result, Ok, Err, IfOk, refl, ap, sym, ◌∙◌, subst}
 use Rattle.al_pattern.specs.declared.node.Node.{Node}
 use Rattle.al_pattern.specs.declared.fault.Fault.{Fault}
 use Rattle.al_pattern.specs.declared.fault.FaultKind.{FaultKind}
@@ -8,8 +8,8 @@ use Rattle.al_pattern.specs.declared.fault.PatternFault.{PatternFault}
 use Rattle.al_pattern.specs.declared.fault.PatternFault.TheVariants as faults
 use Rattle.al_pattern.specs.Trees.{Choice, IsSpelled}
 use Rattle.al_pattern.specs.Language.{IsInLanguage}
-use Rattle.al_pattern.specs.Walk.{seen, choice_seen}
-use Rattle.al_pattern.specs.Programs.{IsCompiled, IsProgram}
+use Rattle.al_pattern.specs.Walk.{choice_seen}
+use Rattle.al_pattern.specs.Programs.{IsCompiled}
 use Rattle.al_pattern.specs.Patterns.{AreNodesOf, IsReady}
 use Rattle.al_pattern.specs.Reading.{reading, tree_of, tree_or_empty, first_fault, fault_or_none, fault_named, placed, IsFirstFault}
 use Rattle.al_pattern.proofs.CompileLemmas.{compiled_from}
@@ -34,7 +34,8 @@ nodes_compiled nodes text n =
 pub ready_from : (nodes : List Node) (text : List ℕ) (nullable : Bool) → AreNodesOf nodes text → (nullable ≡ true ↔ IsInLanguage (tree_of text) []) → IsReady text nodes nullable
 ready_from nodes text nullable n empty = record {
   spelled = spelled_from text n.tree n.read;
-  program = record { compiled = nodes_compiled nodes text n; empty_text = empty } }
+  program = record { compiled = nodes_compiled nodes text n; empty_text = empty };
+}
 
 pub no_fault : (text : List ℕ) (tree : Choice) → reading text ≡ Ok tree → first_fault text ≡ None
 unfolding first_fault

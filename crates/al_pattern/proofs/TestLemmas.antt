@@ -1,9 +1,9 @@
 -- What tests on bytes tell.
-use Rattle.std.proofs.Common.{◌≡◌, ◌≢◌, ◌≤◌, ◌+◌, ℕ, Bool, true, false, not, cond, ◌&&◌, ◌||◌, ◌==◌, ◌⊎◌, inl, inr, nat_lt, nat_le, drop, Option, List, [], ◌∷◌, ◌++◌, Result, Ok, Err, IfOk, refl, ap, sym, ◌∙◌, subst, arith}
-use Rattle.std.specs.List.{list_any, list_all}
+use Rattle.std.proofs.Common.{◌≡◌, ◌≤◌, ◌+◌, ℕ, Bool, true, false, not, cond, ◌&&◌, ◌||◌, ◌==◌, inl, inr, nat_lt, nat_le, drop, Option, List, [], ◌∷◌, Result, Ok, Err, IfOk, refl, ap, subst, arith}
+use Rattle.std.specs.List.{list_all}
 use Rattle.std.proofs.lemmas.Bool.Decides.{eqb_tells, nat_tests}
 use Rattle.al_pattern.specs.declared.fault.Fault.{Fault}
-use Rattle.al_pattern.specs.Bytes.{among, is_printable, is_char, is_plain, is_escape, is_left_out, begins_with}
+use Rattle.al_pattern.specs.Bytes.{among, begins_with}
 use Rattle.al_pattern.specs.Faults.{◌>>=◌}
 
 -- a fact of what was read, whichever way a test goes, and after another reader
@@ -34,18 +34,21 @@ eq_same a = elim (eqb_tells a a) [ inl h ↦ h.0 | inr h ↦ absurd (h.1 refl) ]
 -- a byte that passes a test which another fails is another byte
 pub differs : (p : ℕ → Bool) (b k : ℕ) → p b ≡ true → p k ≡ false → (b == k) ≡ false
 differs p b k passes never = elim (eqb_tells b k) [
-    inl h ↦ absurd (let e = ap p h.1 in cc)
-  | inr h ↦ h.0 ]
+  | inl h ↦ absurd (let e = ap p h.1 in cc)
+  | inr h ↦ h.0
+]
 
 -- a byte among some passes what each of them passes
 pub among_all : (p : ℕ → Bool) (bytes : List ℕ) (b : ℕ) → among bytes b ≡ true → list_all p bytes ≡ true → p b ≡ true
 among_all p [] b e f = absurd (cc)
 among_all p (x ∷ bytes) b e f = elim (eqb_tells x b) [
-    inl h ↦ subst (λ n. p n ≡ true) h.1 (first (p x) (list_all p bytes) f)
-  | inr h ↦ among_all p bytes b (subst (λ r. (r || among bytes b) ≡ true) h.0 e) (rest (p x) (list_all p bytes) f) ] where
+  | inl h ↦ subst (λ n. p n ≡ true) h.1 (first (p x) (list_all p bytes) f)
+  | inr h ↦ among_all p bytes b (subst (λ r. (r || among bytes b) ≡ true) h.0 e) (rest (p x) (list_all p bytes) f)
+] where
   first : (u v : Bool) → (u && v) ≡ true → u ≡ true
   first true v e = refl
   first false v e = absurd (cc)
+
   rest : (u v : Bool) → (u && v) ≡ true → v ≡ true
   rest true v e = e
   rest false v e = absurd (cc)

@@ -1,9 +1,9 @@
 -- Reading the items of a class.
 use Rattle.std.specs.Prelude.{ℕ, zero, suc, Bool, true, false, ◌&&◌, ◌||◌, not, List, [], ◌∷◌, ◌++◌, length, drop, ◌==◌, nat_lt, if◌then◌else◌, Result, Ok, Err}
 use Rattle.al_pattern.specs.declared.letter.Letter.{Letter}
-use Rattle.al_pattern.specs.declared.letter.Letter.TheVariants.{Plain, Escaped}
+use Rattle.al_pattern.specs.declared.letter.Letter.TheVariants.{Plain}
 use Rattle.al_pattern.specs.declared.letter.Item.{Item}
-use Rattle.al_pattern.specs.declared.letter.Item.TheVariants.{One, Range, Digit, Space}
+use Rattle.al_pattern.specs.declared.letter.Item.TheVariants.{One, Range}
 use Rattle.al_pattern.specs.declared.fault.FaultKind.TheVariants.{Syntax, Unsupported}
 use Rattle.al_pattern.specs.declared.fault.Fault.{Fault}
 use Rattle.al_pattern.specs.Bytes.{is_printable, is_plain, is_left_out, begins_with}
@@ -49,7 +49,7 @@ unfoldable pub range_at : List ℕ → Letter → List ℕ → Result (Item × L
 range_at from first [] = Ok (One first, [])
 range_at from first (b ∷ rest) =
     if b == 45 && not (begins_with 93 rest) then
-      (if begins_with 91 rest then Err (class_stop_at (b ∷ rest)) else last_at rest >>= range_of from first)
+    (if begins_with 91 rest then Err (class_stop_at (b ∷ rest)) else last_at rest >>= range_of from first)
     else Ok (One first, b ∷ rest)
 
 abbrev pub item_behind : List ℕ → Item × List ℕ → Result (Item × List ℕ) Fault

@@ -3,7 +3,7 @@ use Rattle.std.specs.Prelude.{◌≡◌, ◌≢◌, ℕ, true, ◌⊎◌, List, 
 use Rattle.std.specs.List.{concat}
 use Rattle.al_pattern.specs.declared.token.Quantifier.{Quantifier}
 use Rattle.al_pattern.specs.declared.token.Quantifier.TheVariants.{Once, Optional, Star, Plus}
-use Rattle.al_pattern.specs.Tests.{Test, is_allowed}
+use Rattle.al_pattern.specs.Tests.{is_allowed}
 use Rattle.al_pattern.specs.Trees.{Choice, single, either, Branch, nothing, followed, Atom, character, group}
 
 -- each part is taken, and none is empty

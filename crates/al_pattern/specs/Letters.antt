@@ -1,13 +1,13 @@
 -- Letters and class items: their spelling, and reading them.
-use Rattle.std.specs.Prelude.{ℕ, Bool, true, false, ◌&&◌, ◌||◌, not, List, [], ◌∷◌, length, ◌==◌, nat_lt, if◌then◌else◌, Result, Ok, Err}
+use Rattle.std.specs.Prelude.{ℕ, List, [], ◌∷◌, ◌==◌, if◌then◌else◌, Result, Ok, Err}
 use Rattle.al_pattern.specs.declared.letter.Letter.{Letter}
 use Rattle.al_pattern.specs.declared.letter.Letter.TheVariants.{Plain, Escaped}
 use Rattle.al_pattern.specs.declared.letter.Item.{Item}
-use Rattle.al_pattern.specs.declared.letter.Item.TheVariants.{One, Range, Digit, Space}
+use Rattle.al_pattern.specs.declared.letter.Item.TheVariants.{One, Digit, Space}
 use Rattle.al_pattern.specs.declared.fault.FaultKind.TheVariants.{Syntax, Unsupported}
 use Rattle.al_pattern.specs.declared.fault.Fault.{Fault}
-use Rattle.al_pattern.specs.Bytes.{is_printable, is_char, is_plain, is_escape, is_left_out, begins_with}
-use Rattle.al_pattern.specs.Faults.{fault_at, ◌>>=◌}
+use Rattle.al_pattern.specs.Bytes.{is_printable, is_escape}
+use Rattle.al_pattern.specs.Faults.{fault_at}
 
 -- the character that a letter stands for: \n, \r and \t are LF, CR and TAB
 abbrev pub value_of : Letter → ℕ

@@ -1,5 +1,5 @@
 -- What makes nodes the compiled form of a tree.
-use Rattle.std.specs.Prelude.{◌≡◌, ◌≤◌, ◌↔◌, ℕ, Bool, true, List, [], length, map, IsTrue}
+use Rattle.std.specs.Prelude.{◌≡◌, ◌≤◌, ◌↔◌, ℕ, Bool, true, List, [], length, map}
 use Rattle.al_pattern.specs.declared.node.Node.{Node}
 use Rattle.al_pattern.specs.Trees.{Choice}
 use Rattle.al_pattern.specs.Language.{IsInLanguage}

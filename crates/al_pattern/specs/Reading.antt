@@ -7,7 +7,7 @@ use Rattle.al_pattern.specs.declared.fault.Fault.{Fault}
 use Rattle.al_pattern.specs.declared.fault.PatternFault.{PatternFault}
 use Rattle.al_pattern.specs.declared.fault.PatternFault.TheVariants as faults
 use Rattle.al_pattern.specs.Faults.{fault_at, ◌>>=◌}
-use Rattle.al_pattern.specs.Trees.{Choice, single, either, Branch, nothing, followed, Atom, character, group}
+use Rattle.al_pattern.specs.Trees.{Choice, single, either, nothing, followed, Atom, character, group}
 use Rattle.al_pattern.specs.Tokens.{Sign, bar, open_group, close_group, one, token_at}
 
 -- what was read: the choice so far inside the innermost open group, and those around it, the innermost first

@@ -1,6 +1,6 @@
 -- The tokens of a pattern, and reading them.
-use Rattle.std.specs.Prelude.{ℕ, Bool, true, false, ◌+◌, ◌&&◌, ◌||◌, not, List, [], ◌∷◌, ◌++◌, length, ◌==◌, nat_lt, if◌then◌else◌, Option, Some, None, Result, Ok, Err}
-use Rattle.al_pattern.specs.declared.letter.Letter.TheVariants.{Plain, Escaped}
+use Rattle.std.specs.Prelude.{ℕ, Bool, false, ◌+◌, ◌&&◌, ◌||◌, not, List, [], ◌∷◌, ◌==◌, nat_lt, if◌then◌else◌, Option, Some, None, Result, Ok, Err}
+use Rattle.al_pattern.specs.declared.letter.Letter.TheVariants.{Plain}
 use Rattle.al_pattern.specs.declared.letter.Item.{Item}
 use Rattle.al_pattern.specs.declared.letter.Item.TheVariants.{One, Range, Digit, Space}
 use Rattle.al_pattern.specs.declared.fault.FaultKind.TheVariants.{Syntax, Unsupported, TooLarge, TooDeep}
@@ -11,7 +11,7 @@ use Rattle.al_pattern.specs.declared.token.CharTest.{CharTest}
 use Rattle.al_pattern.specs.declared.token.CharTest.TheVariants as tests
 use Rattle.al_pattern.specs.declared.token.Token.{Token}
 use Rattle.al_pattern.specs.declared.token.Token.TheVariants as tokens
-use Rattle.al_pattern.specs.Bytes.{among, is_printable, is_char, begins_with}
+use Rattle.al_pattern.specs.Bytes.{among, is_printable, is_char}
 use Rattle.al_pattern.specs.Faults.{fault_at, ◌>>=◌}
 use Rattle.al_pattern.specs.Letters.{escape_at}
 use Rattle.al_pattern.specs.Classes.{begins_left_out, class_at}
@@ -93,6 +93,6 @@ token_at depth nodes (b ∷ rest) =
     else if b == 41 then (if depth == 0 then Err (fault_at Syntax (b ∷ rest)) else close_at nodes rest)
     else if not (begins_node b) then Err (fault_at Syntax (b ∷ rest))
     else counted nodes (b ∷ rest)
-      (if b == 124 then Ok (bar, nodes + 1, rest)
-       else if b == 40 then (if nat_lt depth 16 then Ok (open_group, nodes + 1, rest) else Err (fault_at TooDeep (b ∷ rest)))
-       else one_at nodes (b ∷ rest))
+    (if b == 124 then Ok (bar, nodes + 1, rest)
+    else if b == 40 then (if nat_lt depth 16 then Ok (open_group, nodes + 1, rest) else Err (fault_at TooDeep (b ∷ rest)))
+    else one_at nodes (b ∷ rest))

@@ -1,5 +1,5 @@
 -- A pattern as a tree: how it is written, and which trees are patterns.
-use Rattle.std.specs.Prelude.{◌≡◌, ℕ, ◌+◌, ◌≤◌, Bool, true, ◌&&◌, List, [], ◌∷◌, ◌++◌, max, IsTrue}
+use Rattle.std.specs.Prelude.{◌≡◌, ℕ, ◌+◌, ◌≤◌, Bool, true, ◌&&◌, List, [], ◌∷◌, ◌++◌, max}
 use Rattle.al_pattern.specs.declared.token.Quantifier.{Quantifier}
 use Rattle.al_pattern.specs.declared.token.Quantifier.TheVariants.{Once, Optional, Star, Plus}
 use Rattle.al_pattern.specs.Tests.{Test, test_spelling, is_test}

@@ -1,5 +1,5 @@
 -- One step of the walk over a text: a fold over the nodes of the compiled pattern.
-use Rattle.std.specs.Prelude.{◌≡◌, ℕ, ◌+◌, ◌-◌, ◌<◌, Bool, true, false, ◌&&◌, ◌||◌, List, [], ◌∷◌, ◌++◌, map, drop, slice_index_or}
+use Rattle.std.specs.Prelude.{◌≡◌, ℕ, ◌+◌, ◌-◌, ◌<◌, Bool, true, false, ◌&&◌, ◌||◌, List, [], ◌∷◌, ◌++◌, drop, slice_index_or}
 use Rattle.al_pattern.specs.declared.walk.Level.{Level}
 use Rattle.al_pattern.specs.declared.token.Quantifier.{Quantifier}
 use Rattle.al_pattern.specs.declared.token.Quantifier.TheVariants.{Once, Optional, Star, Plus}
@@ -82,7 +82,8 @@ behind_atom l was now nullable = record {
   done = now || (l.done && nullable);
   empty = l.empty && nullable;
   ended = l.ended;
-  skipped = l.skipped }
+  skipped = l.skipped;
+}
 
 abbrev pub at_bar : Level → Level
 at_bar l = record { start = l.start; enter = l.start; done = false; empty = true; ended = l.ended || l.done; skipped = l.skipped || l.empty }
@@ -111,7 +112,7 @@ run (seen_close q ∷ nodes) olds l (outer ∷ around) =
     emitted (has_ended l) (run nodes (drop 1 olds) (behind_atom outer (mark_at 0 olds) (has_ended l) (takes_nothing l || may_skip q)) around)
 run (seen_test allows q ∷ nodes) olds l around =
     emitted (may_enter l q (mark_at 0 olds) && allows)
-      (run nodes (drop 1 olds) (behind_atom l (mark_at 0 olds) (may_enter l q (mark_at 0 olds) && allows) (may_skip q)) around)
+    (run nodes (drop 1 olds) (behind_atom l (mark_at 0 olds) (may_enter l q (mark_at 0 olds) && allows) (may_skip q)) around)
 
 -- of 16 places for levels so many are free: a node may be taken where its level has one, or gives one back
 abbrev pub FitsIn : ℕ → Seen → Type 0

@@ -6,7 +6,9 @@ ghost use Rattle.al_pattern.specs.Classes.{is_unsupported_in_class, begins_left_
 ghost use Rattle.al_pattern.specs.Tokens.{test_shown};
 
 use crate::fault::{Fault, FaultKind, ReadError};
-use crate::letter::{Item, Letter, begins_with, behind, is_left_out, is_plain, is_printable, read_escape};
+use crate::letter::{
+    Item, Letter, begins_with, behind, is_left_out, is_plain, is_printable, read_escape,
+};
 use crate::token::CharTest;
 use std::alloc::Global;
 

@@ -24,8 +24,11 @@ pub enum Item {
 }
 
 const SPECIAL: [u8; 12] = *b".\\?*+()|[]{}";
+
 const CLASS_SPECIAL: [u8; 4] = *b"[]\\-";
+
 const ESCAPES: [u8; 17] = *b"nrt\\|.?*+(){}-[]^";
+
 const LETTERS: [u8; 5] = *b"nrtds";
 
 impl Letter {

@@ -1,12 +1,12 @@
 //! The pattern language of shelves and resource matches: a profile of XML Schema regular expressions.
 #![tactic(auto)]
 
-mod fault;
-mod laws;
-mod letter;
 mod bits;
 mod builder;
 mod class;
+mod fault;
+mod laws;
+mod letter;
 mod node;
 mod pattern;
 mod program;

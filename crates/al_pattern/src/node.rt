@@ -41,9 +41,7 @@ fn insert_item(bytes: &mut [u64; 4], item: &Item)
 {
     match *item {
         Item::One(letter) => insert(bytes, usize::from(letter.value())),
-        Item::Range(first, last) => {
-            insert_range(bytes, first.value(), last.value())
-        }
+        Item::Range(first, last) => { insert_range(bytes, first.value(), last.value()) }
         Item::Digit => insert_range(bytes, b'0', b'9'),
         Item::Space => {
             insert(bytes, usize::from(b' '));

@@ -106,7 +106,12 @@ fn repeated(alloc: Global, unit: &[u8], times: usize) -> Result<Vec<u8>, Fail> {
 }
 
 /// The text `front`, then `middle`, then `back`, each so often.
-fn text_of(alloc: Global, front: (&[u8], usize), middle: (&[u8], usize), back: (&[u8], usize)) -> Result<Vec<u8>, Fail> {
+fn text_of(
+    alloc: Global,
+    front: (&[u8], usize),
+    middle: (&[u8], usize),
+    back: (&[u8], usize),
+) -> Result<Vec<u8>, Fail> {
     let mut text = repeated(alloc, front.0, front.1)?;
     text.extend_from_slice(&repeated(alloc, middle.0, middle.1)?)?;
     text.extend_from_slice(&repeated(alloc, back.0, back.1)?)?;
@@ -128,7 +133,11 @@ fn takes(rt: &impl Abort, alloc: Global, pattern: &str, text: &str) -> bool {
 fn takes_whole_texts(rt: HostRuntime) -> Result<(), Fail> {
     let alloc = rt.alloc();
     for (pattern, text, want) in &TEXTS {
-        assert_eq!(rt; takes(&rt, alloc, pattern, text), *want, "{pattern} on {text}");
+        assert_eq!(rt;
+            takes(&rt, alloc, pattern, text),
+            *want,
+            "{pattern} on {text}"
+        );
     }
     // No pattern is slow.
     let text = text_of(alloc, (b"a", 255), (b"b", 1), (b"", 0))?;
@@ -146,20 +155,48 @@ fn takes_whole_texts(rt: HostRuntime) -> Result<(), Fail> {
 fn faults_at_their_places(rt: HostRuntime) -> Result<(), Fail> {
     let alloc = rt.alloc();
     for (text, fault) in &FAULTS {
-        assert_eq!(rt; fault_of(alloc, text.as_bytes()).as_ref(), Some(fault), "{text}");
+        assert_eq!(rt;
+            fault_of(alloc, text.as_bytes()).as_ref(),
+            Some(fault),
+            "{text}"
+        );
     }
     let none: (&[u8], usize) = (b"", 0);
     let limits = [
         (text_of(alloc, (b"a", 256), none, none)?, None),
-        (text_of(alloc, (b"a", 257), none, none)?, Some(PatternFault::TooLarge(256))),
-        (text_of(alloc, (b"a", 256), (b"*", 1), none)?, Some(PatternFault::TooLarge(256))),
-        (text_of(alloc, (b"a", 256), (b"|", 1), none)?, Some(PatternFault::TooLarge(256))),
-        (text_of(alloc, (b"a", 256), (b"]", 1), none)?, Some(PatternFault::Syntax(256))),
-        (text_of(alloc, (b"a", 256), (b"\\q", 1), none)?, Some(PatternFault::Unsupported(256))),
-        (text_of(alloc, (b"a", 256), (b"\\,", 1), none)?, Some(PatternFault::TooLarge(256))),
+        (
+            text_of(alloc, (b"a", 257), none, none)?,
+            Some(PatternFault::TooLarge(256)),
+        ),
+        (
+            text_of(alloc, (b"a", 256), (b"*", 1), none)?,
+            Some(PatternFault::TooLarge(256)),
+        ),
+        (
+            text_of(alloc, (b"a", 256), (b"|", 1), none)?,
+            Some(PatternFault::TooLarge(256)),
+        ),
+        (
+            text_of(alloc, (b"a", 256), (b"]", 1), none)?,
+            Some(PatternFault::Syntax(256)),
+        ),
+        (
+            text_of(alloc, (b"a", 256), (b"\\q", 1), none)?,
+            Some(PatternFault::Unsupported(256)),
+        ),
+        (
+            text_of(alloc, (b"a", 256), (b"\\,", 1), none)?,
+            Some(PatternFault::TooLarge(256)),
+        ),
         (text_of(alloc, (b"(", 16), (b"a", 1), (b")", 16))?, None),
-        (text_of(alloc, (b"(", 17), (b"a", 1), (b")", 17))?, Some(PatternFault::TooDeep(16))),
-        (text_of(alloc, (b"(", 16), (b"a", 240), (b"(", 1))?, Some(PatternFault::TooLarge(256))),
+        (
+            text_of(alloc, (b"(", 17), (b"a", 1), (b")", 17))?,
+            Some(PatternFault::TooDeep(16)),
+        ),
+        (
+            text_of(alloc, (b"(", 16), (b"a", 240), (b"(", 1))?,
+            Some(PatternFault::TooLarge(256)),
+        ),
     ];
     for (text, fault) in &limits {
         assert_eq!(rt; fault_of(alloc, text), *fault, "{text:?}");

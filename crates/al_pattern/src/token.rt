@@ -138,7 +138,12 @@ fn read_quantifier(nodes: usize, text: &[u8]) -> Result<(Quantifier, usize, &[u8
 
 /// Reads the token at the front of a text, where `depth` groups are open and `nodes` nodes were read.
 #[tactic(auto, unfolding(crate::specs::Tokens::token_at))]
-pub fn read_token(alloc: Global, depth: usize, nodes: usize, text: &[u8]) -> Result<(Token, usize, &[u8]), ReadError>
+pub fn read_token(
+    alloc: Global,
+    depth: usize,
+    nodes: usize,
+    text: &[u8],
+) -> Result<(Token, usize, &[u8]), ReadError>
     requires { nodes ≤ 256 }
     ensures read { Gives (λ x. (shown x.0, x.1, x.2.now)) result (token_at depth nodes text.now) }
     ensures shorter { IfOk result (λ x. length x.2.now < length text.now) }

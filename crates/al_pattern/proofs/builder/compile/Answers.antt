@@ -1,4 +1,4 @@
-use Rattle.std.proofs.Common.{◌≡◌, ◌<◌, length, refl, sym, ap, ◌∙◌, subst}
+use Rattle.std.proofs.Common.{◌≡◌, length, refl, ◌∙◌}
 use Rattle.std.proofs.lemmas.Result.{err_from_is_err_and}
 use Rattle.al_pattern.specs.Reading.{reading}
 use Rattle.al_pattern.specs.Tokens.{shown}
@@ -11,15 +11,17 @@ returns-in_err-token c =
     let depth : c.len.result ≡ length c.tokens.builder.opens.items = c.len.ensures ∙ c.tokens.builder.opens.ok.0 in
     let p = err_from_is_err_and c.from_residual.result c.from_residual.ensures.1 in
     rw (p.1, p.2) (compile_fails c.in_err-token.field-0.0 c.tokens.builder.nodes.items c.tokens.builder.opens.items c.tokens.count c.tokens.rest.now (reading c.args.text.now)
-      some c.tokens.invariant.0 (rw depth at c.in_err-token.ensures.read))
+    some c.tokens.invariant.0 (rw depth at c.in_err-token.ensures.read))
 
 pub tokens-preserved : goal.tokens-preserved
 tokens-preserved c =
     let some = some_from (length c.tokens.rest.now) (length c.tokens.rest.now) c.is_empty.result c.is_empty.ensures c.tokens-test.true refl in
-    let depth : c.len.result ≡ length c.tokens.builder.opens.items = c.len.ensures ∙ c.tokens.builder.opens.ok.0 in
-    (compile_goes_on c.tokens.builder.nodes.items c.put.new.self.nodes.items c.tokens.builder.opens.items c.put.new.self.opens.items c.tokens.count c.in_ok-token.after_count
-      c.tokens.rest.now c.in_ok-token.after.now (shown c.in_ok-token.token) (reading c.args.text.now) some c.tokens.invariant.0 (rw depth at c.in_ok-token.ensures.read)
-      c.in_ok-token.ensures.shorter c.in_ok-put.ensures, c.in_ok-token.ensures.few)
+    let depth : c.len.result ≡ length c.tokens.builder.opens.items = c.len.ensures ∙ c.tokens.builder.opens.ok.0 in (
+      compile_goes_on c.tokens.builder.nodes.items c.put.new.self.nodes.items c.tokens.builder.opens.items c.put.new.self.opens.items c.tokens.count c.in_ok-token.after_count
+          c.tokens.rest.now c.in_ok-token.after.now (shown c.in_ok-token.token) (reading c.args.text.now) some c.tokens.invariant.0 (rw depth at c.in_ok-token.ensures.read)
+          c.in_ok-token.ensures.shorter c.in_ok-put.ensures,
+      c.in_ok-token.ensures.few,
+    )
 
 pub returns-then-not-is_empty : goal.returns-then-not-is_empty
 returns-then-not-is_empty c =

@@ -1,5 +1,3 @@
-use Rattle.std.proofs.Common.{◌≡◌, ◌-◌, ap}
-use Rattle.al_pattern.specs.Reading.{fault_named}
 use Rattle.al_pattern.proofs.PatternLemmas.{fault_is_first}
 use Rattle.al_pattern.proofs.pattern.refusal.Goals as goal
 

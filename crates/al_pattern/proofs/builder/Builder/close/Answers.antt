@@ -1,4 +1,4 @@
-use Rattle.std.proofs.Common.{◌≡◌, ◌<◌, ◌≤◌, ◌-◌, length, arith, sym, ap, ◌∙◌}
+use Rattle.std.proofs.Common.{◌-◌, arith, ap, ◌∙◌}
 use Rattle.al_pattern.proofs.BuildLemmas.{opening_within, builds_close}
 use Rattle.al_pattern.proofs.builder.Builder.close.Goals as goal
 
@@ -20,4 +20,4 @@ index_mut-requires c =
 pub returns-in_ok-push : goal.returns-in_ok-push
 returns-in_ok-push c p built =
     rw c.in_ok-push.ensures.items (builds_close p c.args.self.now.nodes.items c.pop.new.self.items c.args.self.now.opens.items c.in-Some.open
-      (c.len.result - c.in-Some.open - 1) c.args.quantifier built c.in-Some.ensures.items (ap (λ n. n - c.in-Some.open - 1) (c.len.ensures ∙ c.args.self.now.nodes.ok.0)))
+    (c.len.result - c.in-Some.open - 1) c.args.quantifier built c.in-Some.ensures.items (ap (λ n. n - c.in-Some.open - 1) (c.len.ensures ∙ c.args.self.now.nodes.ok.0)))

@@ -1,4 +1,4 @@
-use Rattle.std.proofs.Common.{◌≡◌, refl}
+use Rattle.std.proofs.Common.{refl}
 use Rattle.al_pattern.specs.Reading.{tree_of}
 use Rattle.al_pattern.specs.Programs.{IsCompiled}
 use Rattle.al_pattern.proofs.PatternLemmas.{nodes_compiled, ready_from, spelled_from, no_fault, refused_never}
@@ -12,7 +12,7 @@ pub invariant_of-result : goal.invariant_of-result
 invariant_of-result c =
     let compiled : IsCompiled c.deref.result.now (tree_of c.args.text.now) = rw c.deref.ensures.value (nodes_compiled c.in-Ok.nodes.items c.args.text.now c.in-Ok.ensures) in
     rw c.in_ok-source-in-Ok.ensures.items
-      (ready_from c.in-Ok.nodes.items c.args.text.now c.takes_nothing-nullable.result c.in-Ok.ensures (c.takes_nothing-nullable.ensures (tree_of c.args.text.now) compiled))
+    (ready_from c.in-Ok.nodes.items c.args.text.now c.takes_nothing-nullable.result c.in-Ok.ensures (c.takes_nothing-nullable.ensures (tree_of c.args.text.now) compiled))
 
 pub returns-in_ok-source-in-Ok-clause-found : goal.returns-in_ok-source-in-Ok-clause-found
 returns-in_ok-source-in-Ok-clause-found c =

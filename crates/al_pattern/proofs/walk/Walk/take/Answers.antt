@@ -12,4 +12,4 @@ returns-in-Open-clause-runs c nodes olds holds =
     let within : c.args.self.now.free ≤ length c.args.self.now.levels = omega arith in
     let begins = c.may_enter-begins.ensures ∙ ap (λ m. may_enter c.args.self.now.level c.in-Open.quantifier m) c.contains-again.ensures in
     rw (c.in-Open.is, c.begun-self.ensures) (run-open c.in-Open.quantifier c.in-Open.inner nodes c.args.i c.args.old.now olds c.args.self.now.level
-      c.args.self.now.levels c.args.self.now.free c.may_enter-begins.result holds begins fits.0 within)
+    c.args.self.now.levels c.args.self.now.free c.may_enter-begins.result holds begins fits.0 within)
