@@ -50,3 +50,6 @@ fn word(alloc: Global, text: &str) -> Result<Text, AllocError> {
         Err(TextFault::NotUtf8 | TextFault::Memory) => Err(AllocError),
     }
 }
+
+#[cfg(test)]
+mod tests;

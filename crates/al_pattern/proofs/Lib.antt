@@ -1,0 +1,17 @@
+pub mod AgainLemmas
+pub mod BitLemmas
+pub mod BuildLemmas
+pub mod ClassLemmas
+pub mod CompileLemmas
+pub mod CutLemmas
+pub mod FoundLemmas
+pub mod GrammarLemmas
+pub mod LanguageLemmas
+pub mod Marks
+pub mod OnlyLemmas
+pub mod PatternLemmas
+pub mod RunLemmas
+pub mod TestLemmas
+pub mod TextLemmas
+pub mod TokenLemmas
+pub mod WalkLemmas

@@ -1,0 +1,14 @@
+pub mod Builds
+pub mod Bytes
+pub mod Classes
+pub mod Faults
+pub mod Language
+pub mod Letters
+pub mod Patterns
+pub mod Programs
+pub mod Reading
+pub mod Sets
+pub mod Tests
+pub mod Tokens
+pub mod Trees
+pub mod Walk

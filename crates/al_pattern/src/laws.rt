@@ -1,0 +1,20 @@
+//! What holds of all patterns.
+
+ghost use Rattle.std.specs.Prelude.{◌≡◌, ◌↔◌, ℕ, List, None};
+ghost use Rattle.al_pattern.specs.Reading.{tree_of, first_fault};
+ghost use Rattle.al_pattern.specs.Trees.{Choice, IsSpelled};
+
+/// A text spells one tree at most.
+pub fn one_tree()
+    ensures { (a b : Choice) (text : List ℕ) → IsSpelled a text → IsSpelled b text → a ≡ b }
+{}
+
+/// The tree that a text spells is its `tree_of`.
+pub fn tree_of_text()
+    ensures { (tree : Choice) (text : List ℕ) → IsSpelled tree text → tree_of text ≡ tree }
+{}
+
+/// Exactly the texts that spell a tree have no fault.
+pub fn no_fault()
+    ensures { (text : List ℕ) → (first_fault text ≡ None ↔ IsSpelled (tree_of text) text) }
+{}

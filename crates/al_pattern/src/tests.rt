@@ -1,0 +1,205 @@
+use super::*;
+use std::alloc::Global;
+use std::process::Abort;
+use std::test::Fail;
+
+/// Patterns, texts, and whether the whole text is taken.
+const TEXTS: [(&str, &str, bool); 44] = [
+    ("(eth|lag)[0-9]+", "eth12", true),
+    ("(eth|lag)[0-9]+", "eth", false),
+    ("(eth|lag)[0-9]+", "xeth1", false),
+    ("(eth|lag)[0-9]+", "lag0", true),
+    ("(eth|lag)[0-9]+", "eth1x", false),
+    ("", "", true),
+    ("", "a", false),
+    ("()*", "", true),
+    ("()*", "a", false),
+    ("a|", "", true),
+    ("ab?c", "ac", true),
+    ("ab?c", "abbc", false),
+    ("ab+c", "ac", false),
+    ("ab+c", "abbbc", true),
+    ("(a|b)*c", "abbac", true),
+    ("(a|b)*c", "abxc", false),
+    ("(a*b*)+", "abab", true),
+    ("((a?)(b?)c*)+d", "bacbd", true),
+    ("[a-c]x", "bx", true),
+    ("[a-c]x", "dx", false),
+    ("[^a-c]", "d", true),
+    ("[^a-c]", "c", false),
+    ("[^a-c]", "\u{e9}", true),
+    ("[^a-c]", "\u{1f600}", true),
+    ("[-a]", "-", true),
+    ("[a-]", "-", true),
+    ("[a-]", "b", false),
+    ("[^-]", "-", false),
+    ("[a^]", "^", true),
+    ("[\\d.]+", "10.2", true),
+    ("\\d\\s\\d", "1\t2", true),
+    ("\\d", "a", false),
+    ("\\s", "\r", true),
+    ("a\\tb", "a\tb", true),
+    (".", "x", true),
+    (".", "\n", false),
+    (".", "\r", false),
+    (".", "\u{e9}", true),
+    ("..", "\u{e9}", false),
+    ("a.c", "a\u{20ac}c", true),
+    ("\\.\\\\", ".\\", true),
+    ("\\.", "x", false),
+    ("^a$", "^a$", true),
+    ("[\\[-\\]]", "\\", true),
+];
+
+/// Texts that are no patterns, with the fault.
+const FAULTS: [(&str, PatternFault); 42] = [
+    ("a{2}", PatternFault::Unsupported(1)),
+    ("a**", PatternFault::Syntax(2)),
+    ("*a", PatternFault::Syntax(0)),
+    ("a|+", PatternFault::Syntax(2)),
+    ("(?", PatternFault::Syntax(1)),
+    (")", PatternFault::Syntax(0)),
+    ("(a))", PatternFault::Syntax(3)),
+    ("(a", PatternFault::Syntax(2)),
+    ("((a)", PatternFault::Syntax(4)),
+    ("a]", PatternFault::Syntax(1)),
+    ("a}", PatternFault::Syntax(1)),
+    ("[a", PatternFault::Syntax(2)),
+    ("[", PatternFault::Syntax(1)),
+    ("[]", PatternFault::Syntax(1)),
+    ("[^]", PatternFault::Syntax(2)),
+    ("[b-a]", PatternFault::Syntax(1)),
+    ("[xb-a", PatternFault::Syntax(2)),
+    ("[a-\\n]", PatternFault::Syntax(1)),
+    ("[a-[b]]", PatternFault::Unsupported(2)),
+    ("[-[b]]", PatternFault::Unsupported(1)),
+    ("[a--[b]]", PatternFault::Unsupported(3)),
+    ("[a-b-\\q]", PatternFault::Unsupported(5)),
+    ("[a-b-c]", PatternFault::Syntax(5)),
+    ("[--a]", PatternFault::Syntax(3)),
+    ("[a--]", PatternFault::Syntax(3)),
+    ("[\\d-a]", PatternFault::Syntax(4)),
+    ("[a-\\d]", PatternFault::Syntax(4)),
+    ("[\\-[", PatternFault::Syntax(3)),
+    ("[a-", PatternFault::Syntax(3)),
+    ("[a[", PatternFault::Syntax(2)),
+    ("[\\", PatternFault::Syntax(2)),
+    ("[\\,]", PatternFault::Syntax(2)),
+    ("[\\w]", PatternFault::Unsupported(1)),
+    ("[\u{e9}]", PatternFault::Unsupported(1)),
+    ("\\p", PatternFault::Unsupported(0)),
+    ("a\\1", PatternFault::Unsupported(1)),
+    ("\\", PatternFault::Syntax(1)),
+    ("\\,", PatternFault::Syntax(1)),
+    ("\\\u{e9}", PatternFault::Unsupported(1)),
+    ("a\u{e9}", PatternFault::Unsupported(1)),
+    ("a\tb", PatternFault::Unsupported(1)),
+    ("{", PatternFault::Unsupported(0)),
+];
+
+fn repeated(alloc: Global, unit: &[u8], times: usize) -> Result<Vec<u8>, Fail> {
+    let mut text = Vec::new(alloc);
+    for _ in 0..times {
+        text.extend_from_slice(unit)?;
+    }
+    Ok(text)
+}
+
+/// The text `front`, then `middle`, then `back`, each so often.
+fn text_of(
+    alloc: Global,
+    front: (&[u8], usize),
+    middle: (&[u8], usize),
+    back: (&[u8], usize),
+) -> Result<Vec<u8>, Fail> {
+    let mut text = repeated(alloc, front.0, front.1)?;
+    text.extend_from_slice(&repeated(alloc, middle.0, middle.1)?)?;
+    text.extend_from_slice(&repeated(alloc, back.0, back.1)?)?;
+    Ok(text)
+}
+
+fn fault_of(alloc: Global, text: &[u8]) -> Option<PatternFault> {
+    Pattern::read(alloc, text).err()
+}
+
+fn takes(rt: &impl Abort, alloc: Global, pattern: &str, text: &str) -> bool {
+    match Pattern::read(alloc, pattern.as_bytes()) {
+        Ok(p) => p.matches(text.as_bytes()),
+        Err(_) => panic!(rt; "{pattern} is a pattern"),
+    }
+}
+
+#[test]
+fn takes_whole_texts(rt: HostRuntime) -> Result<(), Fail> {
+    let alloc = rt.alloc();
+    for (pattern, text, want) in &TEXTS {
+        assert_eq!(rt;
+            takes(&rt, alloc, pattern, text),
+            *want,
+            "{pattern} on {text}"
+        );
+    }
+    // No pattern is slow.
+    let text = text_of(alloc, (b"a", 255), (b"b", 1), (b"", 0))?;
+    let stars = Pattern::read(alloc, b"(a*)*").ok().ok_or("a pattern")?;
+    let copy = stars.copy(alloc)?;
+    assert_eq!(rt; copy.source(), b"(a*)*".as_slice());
+    assert_eq!(rt; stars.matches(b""), true);
+    if let Ok(text) = std::str::from_utf8(&text) {
+        assert_eq!(rt; copy.matches(text.as_bytes()), false);
+    }
+    Ok(())
+}
+
+#[test]
+fn faults_at_their_places(rt: HostRuntime) -> Result<(), Fail> {
+    let alloc = rt.alloc();
+    for (text, fault) in &FAULTS {
+        assert_eq!(rt;
+            fault_of(alloc, text.as_bytes()).as_ref(),
+            Some(fault),
+            "{text}"
+        );
+    }
+    let none: (&[u8], usize) = (b"", 0);
+    let limits = [
+        (text_of(alloc, (b"a", 256), none, none)?, None),
+        (
+            text_of(alloc, (b"a", 257), none, none)?,
+            Some(PatternFault::TooLarge(256)),
+        ),
+        (
+            text_of(alloc, (b"a", 256), (b"*", 1), none)?,
+            Some(PatternFault::TooLarge(256)),
+        ),
+        (
+            text_of(alloc, (b"a", 256), (b"|", 1), none)?,
+            Some(PatternFault::TooLarge(256)),
+        ),
+        (
+            text_of(alloc, (b"a", 256), (b"]", 1), none)?,
+            Some(PatternFault::Syntax(256)),
+        ),
+        (
+            text_of(alloc, (b"a", 256), (b"\\q", 1), none)?,
+            Some(PatternFault::Unsupported(256)),
+        ),
+        (
+            text_of(alloc, (b"a", 256), (b"\\,", 1), none)?,
+            Some(PatternFault::TooLarge(256)),
+        ),
+        (text_of(alloc, (b"(", 16), (b"a", 1), (b")", 16))?, None),
+        (
+            text_of(alloc, (b"(", 17), (b"a", 1), (b")", 17))?,
+            Some(PatternFault::TooDeep(16)),
+        ),
+        (
+            text_of(alloc, (b"(", 16), (b"a", 240), (b"(", 1))?,
+            Some(PatternFault::TooLarge(256)),
+        ),
+    ];
+    for (text, fault) in &limits {
+        assert_eq!(rt; fault_of(alloc, text), *fault, "{text:?}");
+    }
+    Ok(())
+}
