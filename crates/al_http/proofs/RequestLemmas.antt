@@ -1,10 +1,10 @@
 -- The request whose head and body stand at the front.
-use Rattle.std.proofs.Common.{◌≡◌, ℕ, ◌+◌, ◌-◌, ◌≤◌, ◌<◌, List, [], ◌++◌, length, take, drop, map, refl, sym, ◌∙◌, ap, inl, inr, append_assoc, arith}
-use Rattle.std.proofs.lemmas.List.{take-append-drop, take-append-le, length-take, length-take-le, length-drop, length-append, drop-drop, append-nil}
+use Rattle.std.proofs.Common.{◌≡◌, ℕ, ◌+◌, ◌≤◌, ◌<◌, List, ◌++◌, length, take, drop, refl, sym, ◌∙◌, ap, inr, append_assoc, arith}
+use Rattle.std.proofs.lemmas.List.{take-append-drop, length-take, length-take-le, length-drop, drop-drop}
 use Rattle.httparse.specs.declared.spans.HeaderSpan.{HeaderSpan}
 use Rattle.httparse.specs.declared.spans.RequestSpans.{RequestSpans}
-use Rattle.al_http.specs.Blocks.{IsBlock, HoldsNoBlock}
-use Rattle.al_http.specs.Requests.{RequestMessage, Frames, fields_of, request_of, IsHead, FirstRequest, HasBadBlock, IsBad, IsCut}
+use Rattle.al_http.specs.Blocks.{IsBlock}
+use Rattle.al_http.specs.Requests.{FirstRequest, IsBad, IsCut}
 use Rattle.al_http.specs.Shown.{message_at}
 use Rattle.al_http.specs.Heads.{ReadsHead, RefusesBlock}
 use Rattle.al_http.proofs.StreamLemmas.{front_kept}

@@ -1,12 +1,12 @@
 -- Where a block ends, one byte after the other.
-use Rattle.std.proofs.Common.{◌≡◌, ◌≢◌, ℕ, ◌⊎◌, Bool, true, false, ◌||◌, List, [], ◌∷◌, ◌++◌, length, take, refl, sym, ◌∙◌, ap, inl, inr, append_assoc, arith}
+use Rattle.std.proofs.Common.{◌≡◌, ◌≢◌, ℕ, ◌⊎◌, Bool, true, false, ◌||◌, List, [], ◌∷◌, ◌++◌, refl, sym, ◌∙◌, ap, inl, inr, append_assoc, arith}
 use Rattle.std.proofs.lemmas.Bool.Decides.{nat_tests}
 use Rattle.std.proofs.lemmas.List.{same_from_push, append-nil}
 use Rattle.std.proofs.lemmas.List.Folds.{list_any-append}
 use Rattle.std.specs.List.{list_any}
 use Rattle.al_http.specs.declared.scan.Seen.{Seen}
 use Rattle.al_http.specs.declared.scan.Seen.TheVariants.{Nothing, Text, LineFeed, Return}
-use Rattle.al_http.specs.Blocks.{line_feed, carriage_return, is_line_byte, HasLineByte, IsEmptyLineEnd, EndsInEmptyLine, IsBlock, HoldsNoBlock}
+use Rattle.al_http.specs.Blocks.{line_feed, carriage_return, is_line_byte, HasLineByte, EndsInEmptyLine, IsBlock, HoldsNoBlock}
 use Rattle.al_http.specs.Scans.{EndsWith, Shows, IsAfter}
 
 -- What stands before a last byte begins with each front that is shorter than all of it.

@@ -1,21 +1,20 @@
 -- A stream has one list of requests and one ending, and the calls of a framer run through it.
-use Rattle.std.proofs.Common.{◌≡◌, ℕ, ◌+◌, ◌-◌, ◌≤◌, ◌<◌, ◌⊎◌, Bool, true, false, ◌||◌, ◌&&◌, not, cond, ◌==◌, List, [], ◌∷◌, ◌++◌, length, take, drop, Option, None, Some, Ok, Err, refl, sym, ◌∙◌, ap, subst, inl, inr, append_assoc, arith}
+use Rattle.std.proofs.Common.{◌≡◌, ℕ, ◌+◌, ◌-◌, ◌≤◌, ◌<◌, ◌⊎◌, Bool, true, false, ◌||◌, ◌&&◌, not, cond, ◌==◌, List, [], ◌∷◌, ◌++◌, length, take, drop, Option, None, Some, Ok, Err, refl, sym, ◌∙◌, ap, inl, inr, arith}
 use Rattle.std.specs.List.{list_any}
 use Rattle.std.specs.Prelude.{IfSome}
-use Rattle.std.specs.Io.KnownBytes.{Keeps}
 use Rattle.std.proofs.Math.Seq.{take-append-add}
-use Rattle.std.proofs.lemmas.List.{append_cancel_left, append-nil, length-append, length-take-le, take_at, drop_at}
+use Rattle.std.proofs.lemmas.List.{append_cancel_left, append-nil, length-append, take_at, drop_at}
 use Rattle.std.proofs.lemmas.List.Folds.{list_any-append}
-use Rattle.httparse.specs.Grammar.{RequestHead, ReadsRequest}
+use Rattle.httparse.specs.Grammar.{RequestHead}
 use Rattle.httparse.proofs.GrammarLemmas.{request_unique}
 use Rattle.al_http.specs.declared.framer.Stop.TheVariants.{ReadFault}
 use Rattle.al_http.specs.declared.framer.Stop.TheVariants as stops
 use Rattle.al_http.specs.declared.request.HttpRequest.{HttpRequest}
-use Rattle.al_http.specs.Blocks.{line_feed, carriage_return, is_line_byte, HasLineByte, EndsInEmptyLine, IsBlock, HoldsNoBlock, are_line_ends}
-use Rattle.al_http.specs.Requests.{RequestMessage, Frames, fields_of, IsHead, FirstRequest, HasEnded, IsTooLong, HasBadBlock, IsBad, LacksBlock, LacksBody, IsCut}
+use Rattle.al_http.specs.Blocks.{line_feed, carriage_return, is_line_byte, HasLineByte, IsBlock, HoldsNoBlock, are_line_ends}
+use Rattle.al_http.specs.Requests.{RequestMessage, Frames, fields_of, IsHead, FirstRequest, HasEnded, IsTooLong, HasBadBlock, IsBad, LacksBody, IsCut}
 use Rattle.al_http.specs.Streams.{Ending, Ended, Limit, Cut, Rejected, Cuts, RestEnds, EndsAs, request_limit, IsStream, HasGiven, IsWhole}
 use Rattle.al_http.specs.Shown.{message_of}
-use Rattle.al_http.specs.Moves.{Moves, TakesRequest}
+use Rattle.al_http.specs.Moves.{Moves}
 
 -- of two fronts of one list, one is a front of the other
 fronts : (a b r q : List ℕ) → a ++ r ≡ b ++ q → ((m : List ℕ) × (b ≡ a ++ m)) ⊎ ((m : List ℕ) × (a ≡ b ++ m))

@@ -1,6 +1,5 @@
 -- Laws of the request stream.
 use Rattle.std.specs.Prelude.{◌≡◌, ℕ, ◌<◌, List, [], ◌∷◌, ◌++◌, length, Option, Some, None, Ok, Err}
-use Rattle.std.specs.Io.KnownBytes.{Keeps}
 use Rattle.al_http.specs.declared.framer.Stop.TheVariants.{ReadFault}
 use Rattle.al_http.specs.declared.framer.Stop.TheVariants as stops
 use Rattle.al_http.specs.declared.request.HttpRequest.{HttpRequest}

@@ -1,5 +1,5 @@
 -- What a scan for the end of a block has seen.
-use Rattle.std.specs.Prelude.{◌≡◌, ◌≤◌, ℕ, Bool, false, List, [], ◌∷◌, ◌++◌, length, take}
+use Rattle.std.specs.Prelude.{◌≡◌, ◌≤◌, ℕ, false, List, [], ◌∷◌, ◌++◌, length, take}
 use Rattle.std.specs.List.{list_any}
 use Rattle.al_http.specs.declared.scan.Seen.{Seen}
 use Rattle.al_http.specs.declared.scan.Seen.TheVariants.{Nothing, Text, LineFeed, Return}

@@ -171,27 +171,24 @@ fn a_request_is_its_parts(rt: HostRuntime) -> Result<(), Fail> {
     for _ in 0..2 {
         assert!(rt; faults(framer.next(&mut source)));
     }
-    match framer.next(&mut source) {
-        Ok(Some(request)) => {
-            let parts = [
-                (request.method(), b"POST".as_slice()),
-                (request.path(), b"/a".as_slice()),
-                (request.query().unwrap_or(b""), b"b=c?d".as_slice()),
-                (request.field(b"X-a", 0).unwrap_or(b""), b"1".as_slice()),
-                (request.field(b"X-a", 1).unwrap_or(b""), b"2".as_slice()),
-                (
-                    request.field(b"X-a", 2).unwrap_or(b"none"),
-                    b"none".as_slice(),
-                ),
-                (request.body(), b"xyz".as_slice()),
-            ];
-            for (part, expected) in parts.iter() {
-                assert_eq!(rt; *part, *expected);
-            }
-        }
-        _ => assert!(rt; false),
-    }
+    assert!(rt; is_as_sent(framer.next(&mut source)));
     Ok(())
+}
+
+/// Whether the answer is the request that was sent.
+fn is_as_sent(answer: Result<Option<HttpRequest<'_>>, Stop>) -> bool {
+    match answer {
+        Ok(Some(request)) => {
+            request.method() == b"POST".as_slice()
+                && request.path() == b"/a".as_slice()
+                && request.query().unwrap_or(b"") == b"b=c?d".as_slice()
+                && request.field(b"X-a", 0).unwrap_or(b"") == b"1".as_slice()
+                && request.field(b"X-a", 1).unwrap_or(b"") == b"2".as_slice()
+                && request.field(b"X-a", 2).is_none()
+                && request.body() == b"xyz".as_slice()
+        }
+        _ => false,
+    }
 }
 
 /// Whether a read failed.

@@ -1,6 +1,6 @@
-use Rattle.std.proofs.Common.{◌≡◌, map, refl, sym, codes, lit≤}
+use Rattle.std.proofs.Common.{map, refl, sym, codes, lit≤}
 use Rattle.httparse.specs.Spans.{header_bytes}
-use Rattle.al_http.specs.Requests.{values_of, stated_length}
+use Rattle.al_http.specs.Requests.{values_of}
 use Rattle.al_http.proofs.HeadLemmas.{no_value, no_values, one_value}
 use Rattle.al_http.proofs.head.body_length.Goals as goal
 

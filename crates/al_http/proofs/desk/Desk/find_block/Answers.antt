@@ -1,8 +1,6 @@
-use Rattle.std.proofs.Common.{rules, ◌≡◌, ◌+◌, ◌-◌, ◌<◌, ◌≤◌, length, take, List, ℕ, ◌++◌, drop, min, sym, ap, subst, inl, inr, lit<, arith}
+use Rattle.std.proofs.Common.{◌≡◌, ◌-◌, ◌<◌, ◌≤◌, length, take, drop, min, inl, lit<, arith}
 use Rattle.std.proofs.lemmas.List.{length-append, take-append-le, length-take, length-drop}
-use Rattle.al_http.specs.Blocks.{IsBlock, HoldsNoBlock}
 use Rattle.al_http.specs.Requests.{IsBad}
-use Rattle.al_http.specs.Scans.{IsAfter, Looks}
 use Rattle.al_http.specs.Desks.{held_bytes}
 use Rattle.al_http.proofs.ScanLemmas.{after_none}
 use Rattle.al_http.proofs.StreamLemmas.{keeps_same, keeps_both, kept_has, stream_all, take_on, take_to, front_kept}

@@ -1,4 +1,4 @@
-use Rattle.std.proofs.Common.{◌≡◌, ◌-◌, ◌<◌, ◌≤◌, length, take}
+use Rattle.std.proofs.Common.{◌-◌, ◌<◌, ◌≤◌, length, take}
 use Rattle.std.specs.Io.KnownBytes.{Keeps}
 use Rattle.al_http.specs.Moves.{stream_of}
 use Rattle.al_http.specs.Scans.{IsAfter}

@@ -3,7 +3,7 @@ use Rattle.std.specs.Io.KnownBytes.{Keeps}
 use Rattle.std.specs.Vec.{with_items}
 use Rattle.std.specs.Prelude.{slice_range}
 use Rattle.std.proofs.lemmas.Bool.{ltb-false}
-use Rattle.std.proofs.lemmas.List.{with_items_is, append-nil}
+use Rattle.std.proofs.lemmas.List.{with_items_is}
 use Rattle.al_http.specs.Moves.{stream_of}
 use Rattle.al_http.specs.Desks.{held_bytes}
 use Rattle.al_http.proofs.StreamLemmas.{read_on, same_left, held_grown, held_same, at_end}

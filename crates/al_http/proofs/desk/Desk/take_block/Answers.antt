@@ -1,8 +1,6 @@
-use Rattle.std.proofs.Common.{◌≡◌, ◌+◌, ◌≤◌, ◌<◌, ◌++◌, List, ℕ, length, take, drop, sym, subst, arith}
-use Rattle.std.specs.Io.KnownBytes.{Keeps}
-use Rattle.al_http.specs.Requests.{IsBad, IsCut, FirstRequest}
-use Rattle.al_http.specs.Moves.{stream_of, TakesRequest}
-use Rattle.al_http.specs.Desks.{held_bytes, message_on}
+use Rattle.std.proofs.Common.{◌+◌, ◌≤◌, length}
+use Rattle.al_http.specs.Requests.{IsBad, IsCut}
+use Rattle.al_http.specs.Desks.{held_bytes}
 use Rattle.al_http.proofs.StreamLemmas.{keeps_same, stream_all, all_has, takes_kept}
 use Rattle.al_http.proofs.RequestLemmas.{first_request, bad_block, cut_body}
 use Rattle.al_http.proofs.desk.Desk.take_block.Goals as goal

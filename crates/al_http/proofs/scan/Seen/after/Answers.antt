@@ -1,6 +1,4 @@
-use Rattle.std.proofs.Common.{rules, ◌≡◌, ◌≢◌, inl, inr, ℕ, List, [], ◌∷◌, ◌++◌, true, false, refl, arith}
-use Rattle.al_http.specs.Blocks.{IsBlock}
-use Rattle.al_http.specs.Scans.{IsAfter}
+use Rattle.std.proofs.Common.{◌≢◌, inl, inr, refl, arith}
 use Rattle.al_http.proofs.ScanLemmas.{after_nothing, after_text, after_line_feed, after_return, after_text_return, after_two_returns, ends_line_feed, ends_return, line_byte}
 use Rattle.al_http.proofs.scan.Seen.after.Goals as goal
 
