@@ -6,6 +6,7 @@ use Rattle.std.proofs.lemmas.List.{length_push}
 use Rattle.std.proofs.lemmas.Option.{slice_get_within, slice_get-get_or}
 use Rattle.std.specs.Prelude.{Option, None, Some, slice_get, get_or}
 use Rattle.al_types.specs.Faults.{IsSound}
+use Rattle.al_types.specs.Inventories.{InventoryView, IsRowOf, IsOnlyRow}
 use Rattle.al_types.specs.Known.{root, IsNamed, IsKnownBefore, IsDuplicateIdentity, IsUnknownBase, IsDuplicateRow}
 use Rattle.al_types.specs.Places.{StandsAt, IsBefore, HasBases}
 use Rattle.al_types.specs.declared.place.Place.{Place}
@@ -123,3 +124,31 @@ has_more identities places n place identity has at before stands = record {
                 subst (λ m. P m p i) (sym e) (subst (λ q. P n q i) new.1 (subst (λ j. P n place j) g (before, stands)))
         ];
 }
+
+-- the one row of its type and qualifier
+pub only_row : (i : InventoryView) → ((n : ℕ) → ¬ (IsDuplicateRow i.rows n)) → (k : ℕ) (row : Row) (type_id qualifier : List ℕ) → slice_get i.rows k ≡ Some row
+    → row.type_id ≡ type_id → row.qualifier ≡ qualifier → IsOnlyRow i type_id qualifier row
+only_row i none k row type_id qualifier at same_type same_qualifier = record {
+    is = record { place = k; stands = at; same_type = same_type; same_qualifier = same_qualifier };
+    only = λ other o. one_row i.rows o.place k other row none o.stands at (o.same_type ∙ sym same_type) (o.same_qualifier ∙ sym same_qualifier);
+}
+
+-- none of the first rows is of the type and qualifier
+abbrev pub NoneOf : List Row → List ℕ → List ℕ → ℕ → Type 0
+NoneOf rows type_id qualifier n =
+    (k : ℕ) (row : Row) → k < n → slice_get rows k ≡ Some row → row.type_id ≡ type_id → ¬ (row.qualifier ≡ qualifier)
+
+pub none_of_next : (rows : List Row) (type_id qualifier : List ℕ) (n : ℕ) (row : Row) → NoneOf rows type_id qualifier n → slice_get rows n ≡ Some row
+    → (row.type_id ≡ type_id → ¬ (row.qualifier ≡ qualifier)) → NoneOf rows type_id qualifier (n + 1)
+none_of_next rows type_id qualifier n row before at other k found lt there same_type same_qualifier =
+    let le : k ≤ n = omega arith in
+    elim (eq-or-lt_of_le le) [
+        inl e ↦
+            let f : Some row ≡ Some found = sym at ∙ ap (slice_get rows) (sym e) ∙ there in
+            let p : row ≡ found = cc in
+            other (ap (λ (r : Row). r.type_id) p ∙ same_type) (ap (λ (r : Row). r.qualifier) p ∙ same_qualifier)
+        | inr below ↦ before k found below there same_type same_qualifier
+    ]
+
+pub none_is_of : (i : InventoryView) (type_id qualifier : List ℕ) → NoneOf i.rows type_id qualifier (length i.rows) → (row : Row) → ¬ (IsRowOf i type_id qualifier row)
+none_is_of i type_id qualifier none row o = none o.place row (slice_get_within i.rows o.place row o.stands) o.stands o.same_type o.same_qualifier

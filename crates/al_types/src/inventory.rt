@@ -104,7 +104,8 @@ impl Inventory {
     }
 
     fn place(&self, name: &TypeId) -> Option<Place>
-        ensures { IsPlaceBefore self.now.identities (length self.now.identities) name.now result }
+        ensures place { IsPlaceBefore self.now.identities (length self.now.identities) name.now result }
+        ensures sound { IsSound self.now.identities self.now.rows }
     {
         let identities = self.identities.as_slice();
         place_before(identities, identities.len(), name)

@@ -6,8 +6,8 @@ pub mod inventory;
 mod place;
 mod repeats;
 pub mod row;
-
-
+#[cfg(test)]
+mod tests;
 
 pub use fault::InventoryFault;
 pub use inventory::{Inventory, MAX_DECLARED};
