@@ -34,6 +34,6 @@ from_row identities rows places n few names has f = inr (few, names, all_known i
 pub complete : (identities : List Identity) (rows : List Row) (places : List Place) → AreFew identities rows → IsFirst (IsDuplicateIdentity identities) None
     → HasBases identities places (length identities) → IsFirst (IsDuplicateRow rows) None → IsInventory identities rows places
 complete identities rows places few names has kinds = record {
-    sound = record { few = few; names = names; bases = all_known identities places has; kinds = kinds };
-    bases = has;
+  sound = record { few = few; names = names; bases = all_known identities places has; kinds = kinds };
+  bases = has;
 }

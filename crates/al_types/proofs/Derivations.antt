@@ -38,11 +38,11 @@ one_place identities rows s Root (Declared n) a h k = absurd (s.names n (record 
 one_place identities rows s (Declared n) Root a h k = absurd (s.names n (record { identity = record { name = a; base = h.0 }; stands = h.1; known = inl k }))
 one_place identities rows s (Declared m) (Declared n) a h k =
     elim (cases_order m n) [
-        inl e ↦ ap Declared e
-        | inr other ↦ elim other [
-            inl lt ↦ absurd (s.names n (record { identity = record { name = a; base = k.0 }; stands = k.1; known = inr (m, lt, h) }))
-            | inr gt ↦ absurd (s.names m (record { identity = record { name = a; base = h.0 }; stands = h.1; known = inr (n, gt, k) }))
-        ]
+      | inl e ↦ ap Declared e
+      | inr other ↦ elim other [
+        | inl lt ↦ absurd (s.names n (record { identity = record { name = a; base = k.0 }; stands = k.1; known = inr (m, lt, h) }))
+        | inr gt ↦ absurd (s.names m (record { identity = record { name = a; base = h.0 }; stands = h.1; known = inr (n, gt, k) }))
+      ]
     ]
 
 one_base : (i : InventoryView) → IsSound i.identities i.rows → (t b c : List ℕ) (n : ℕ) → Declares i t b → slice_get i.identities n ≡ Some (record { name = t; base = c }) → b ≡ c
@@ -66,9 +66,9 @@ root_alone i s base (x ∷ rest) l = absurd (s.names l.0.0 (record { identity = 
 
 pub goes_from_start : (i : InventoryView) (start goal : Place) → IsStanding i.identities start → GoesOn i start goal start
 goes_from_start i start goal standing = record {
-    standing = standing;
-    down = λ t base now at to here d. (let P : List ℕ → Type 0 = λ x. DerivesFrom i x base in subst P (one_type i.identities start t now at here) d);
-    up = λ t base now at to here d. (let P : List ℕ → Type 0 = λ x. DerivesFrom i x base in subst P (one_type i.identities start now t here at) d);
+  standing = standing;
+  down = λ t base now at to here d. (let P : List ℕ → Type 0 = λ x. DerivesFrom i x base in subst P (one_type i.identities start t now at here) d);
+  up = λ t base now at to here d. (let P : List ℕ → Type 0 = λ x. DerivesFrom i x base in subst P (one_type i.identities start now t here at) d);
 }
 
 pub goes_on : (i : InventoryView) (places : List Place) → IsInventory i.identities i.rows places → (start goal place : Place) (n : ℕ) → slice_get places n ≡ Some place → ¬ (Declared n ≡ goal)
@@ -80,16 +80,16 @@ goes_on i places v start goal place n at other g =
     let here = v.bases.each n place (record { name = type_id; base = next }) at named.1 in
     let same : (now : List ℕ) → StandsAt i.identities place now → next ≡ now = λ now stands. one_type i.identities place next now here.1 stands in
     record {
-        standing = (next, here.1);
-        down = λ t base now from to stands d.
-            let P : List ℕ → Type 0 = λ x. DerivesFrom i x base in
-            let Q : List ℕ → Type 0 = λ x. StandsAt i.identities goal x in
-            let apart : ¬ (type_id ≡ base) = λ e. other (one_place i.identities i.rows v.sound (Declared n) goal type_id named (subst Q (sym e) to)) in
-            let before = g.down t base type_id from to named d in
-            subst P (same now stands) (step_down i v.sound type_id next base n before.0 before.1 apart named.1);
-        up = λ t base now from to stands d.
-            let P : List ℕ → Type 0 = λ x. DerivesFrom i x base in
-            g.up t base type_id from to named (step_up i type_id next base n (subst P (sym (same now stands)) d) named.1);
+      standing = (next, here.1);
+      down = λ t base now from to stands d.
+          let P : List ℕ → Type 0 = λ x. DerivesFrom i x base in
+          let Q : List ℕ → Type 0 = λ x. StandsAt i.identities goal x in
+          let apart : ¬ (type_id ≡ base) = λ e. other (one_place i.identities i.rows v.sound (Declared n) goal type_id named (subst Q (sym e) to)) in
+          let before = g.down t base type_id from to named d in
+          subst P (same now stands) (step_down i v.sound type_id next base n before.0 before.1 apart named.1);
+      up = λ t base now from to stands d.
+          let P : List ℕ → Type 0 = λ x. DerivesFrom i x base in
+          g.up t base type_id from to named (step_up i type_id next base n (subst P (sym (same now stands)) d) named.1);
     }
 
 pub goes_down : (i : InventoryView) (places : List Place) → IsInventory i.identities i.rows places → (start goal place : Place) (n : ℕ) → slice_get places n ≡ Some place
@@ -97,7 +97,7 @@ pub goes_down : (i : InventoryView) (places : List Place) → IsInventory i.iden
 goes_down i places v start goal place n at g =
     let here = v.bases.each n place (record { name = g.standing.0; base = g.standing.1.0 }) at g.standing.1.1 in
     lower place here.0
-    where
+  where
     lower : (p : Place) → IsBefore p n → depth p < n + 1
     lower Root before = omega arith
     lower (Declared m) before = omega arith
@@ -107,15 +107,16 @@ reached i start goal g t base from to = (λ yes. g.up t base base from to to ([]
 
 pub stopped : (i : InventoryView) → IsSound i.identities i.rows → (start goal : Place) → ¬ (Root ≡ goal) → GoesOn i start goal Root → TellsDerivation i start goal false
 stopped i s start goal other g t base from to =
-    let Q : List ℕ → Type 0 = λ x. StandsAt i.identities goal x in
-    (λ yes. absurd (search rules),
-    λ d. let rest = g.down t base root from to refl d in
-        absurd (other (one_place i.identities i.rows s Root goal root refl (subst Q (sym (root_alone i s base rest.0 rest.1)) to))))
+    let Q : List ℕ → Type 0 = λ x. StandsAt i.identities goal x in (
+      λ yes. absurd (search rules),
+      λ d. let rest = g.down t base root from to refl d in
+          absurd (other (one_place i.identities i.rows s Root goal root refl (subst Q (sym (root_alone i s base rest.0 rest.1)) to))),
+    )
 
 -- a type that isn't known derives from itself alone
 pub unknown_alone : (i : InventoryView) (t base : List ℕ) → ¬ (IsKnownBefore i.identities (length i.identities) t) → ¬ (t ≡ base) → ¬ (DerivesFrom i t base)
 unknown_alone i t base unknown other d = leads d.0 d.1
-    where
+  where
     leads : (further : List (List ℕ)) → Leads i t further base → ⊥
     leads [] l = other l
     leads (x ∷ rest) l = unknown (inr (l.0.0, slice_get_within i.identities l.0.0 _ l.0.1, (x, l.0.1)))
@@ -130,16 +131,16 @@ reaches_known i s base t x [] unknown d l =
     let within : d.0 < length i.identities = slice_get_within i.identities d.0 _ d.1 in
     let le : d.0 ≤ length i.identities = omega arith in
     s.bases d.0 (record {
-        identity = record { name = t; base = x };
-        stands = d.1;
-        unknown = subst P (sym l) (λ k. unknown (later_known i.identities d.0 (length i.identities) base le k));
+      identity = record { name = t; base = x };
+      stands = d.1;
+      unknown = subst P (sym l) (λ k. unknown (later_known i.identities d.0 (length i.identities) base le k));
     })
 reaches_known i s base t x (y ∷ rest) unknown d l = reaches_known i s base x y rest unknown l.0 l.1
 
 -- nor does another derive from it
 pub unknown_underived : (i : InventoryView) → IsSound i.identities i.rows → (t base : List ℕ) → ¬ (IsKnownBefore i.identities (length i.identities) base) → ¬ (t ≡ base) → ¬ (DerivesFrom i t base)
 unknown_underived i s t base unknown other d = leads d.0 d.1
-    where
+  where
     leads : (further : List (List ℕ)) → Leads i t further base → ⊥
     leads [] l = other l
     leads (x ∷ rest) l = reaches_known i s base t x rest unknown l.0 l.1

@@ -69,14 +69,14 @@ pub none_before_next : (rows : List Row) (n earlier : ℕ) (a b : Row) → NoneB
 none_before_next rows n earlier a b before first second differ k x y lt at there same_type same_qualifier =
     let le : k ≤ earlier = omega arith in
     elim (eq-or-lt_of_le le) [
-        inl e ↦
-            let f : Some x ≡ Some a = sym at ∙ ap (slice_get rows) e ∙ first in
-            let p : x ≡ a = cc in
-            let q : y ≡ b = cc in
-            let type_ids : a.type_id ≡ b.type_id = sym (ap (λ (row : Row). row.type_id) p) ∙ same_type ∙ ap (λ (row : Row). row.type_id) q in
-            let qualifiers : a.qualifier ≡ b.qualifier = sym (ap (λ (row : Row). row.qualifier) p) ∙ same_qualifier ∙ ap (λ (row : Row). row.qualifier) q in
-            differ type_ids qualifiers
-        | inr below ↦ before k x y below at there same_type same_qualifier
+      | inl e ↦
+          let f : Some x ≡ Some a = sym at ∙ ap (slice_get rows) e ∙ first in
+          let p : x ≡ a = cc in
+          let q : y ≡ b = cc in
+          let type_ids : a.type_id ≡ b.type_id = sym (ap (λ (row : Row). row.type_id) p) ∙ same_type ∙ ap (λ (row : Row). row.type_id) q in
+          let qualifiers : a.qualifier ≡ b.qualifier = sym (ap (λ (row : Row). row.qualifier) p) ∙ same_qualifier ∙ ap (λ (row : Row). row.qualifier) q in
+          differ type_ids qualifiers
+      | inr below ↦ before k x y below at there same_type same_qualifier
     ]
 
 -- rows of one type and qualifier are one row
@@ -84,11 +84,11 @@ pub one_row : (rows : List Row) (j k : ℕ) (a b : Row) → ((n : ℕ) → ¬ (I
     → a.type_id ≡ b.type_id → a.qualifier ≡ b.qualifier → a ≡ b
 one_row rows j k a b none at there same_type same_qualifier =
     elim (cases_order j k) [
-        inl e ↦ (let f : Some a ≡ Some b = sym at ∙ ap (slice_get rows) e ∙ there in cc)
-        | inr other ↦ elim other [
-            inl lt ↦ absurd (none k (record { earlier = j; before = lt; repeated = a; row = b; first = at; second = there; same_type = same_type; same_qualifier = same_qualifier }))
-            | inr gt ↦ absurd (none j (record { earlier = k; before = gt; repeated = b; row = a; first = there; second = at; same_type = sym same_type; same_qualifier = sym same_qualifier }))
-        ]
+      | inl e ↦ (let f : Some a ≡ Some b = sym at ∙ ap (slice_get rows) e ∙ there in cc)
+      | inr other ↦ elim other [
+        | inl lt ↦ absurd (none k (record { earlier = j; before = lt; repeated = a; row = b; first = at; second = there; same_type = same_type; same_qualifier = same_qualifier }))
+        | inr gt ↦ absurd (none j (record { earlier = k; before = gt; repeated = b; row = a; first = there; second = at; same_type = sym same_type; same_qualifier = sym same_qualifier }))
+      ]
     ]
 
 -- where the place of each base is known, no base is unknown
@@ -112,25 +112,25 @@ pushed (z ∷ xs) x y (suc k) h = elim (pushed xs x y k h) [ inl e ↦ inl e | i
 pub has_more : (identities : List Identity) (places : List Place) (n : ℕ) (place : Place) (identity : Identity) → HasBases identities places n → slice_get identities n ≡ Some identity
     → IsBefore place n → StandsAt identities place identity.base → HasBases identities (places ++ place ∷ []) (n + 1)
 has_more identities places n place identity has at before stands = record {
-    count = length_push places place ∙ ap (λ m. m + 1) has.count;
-    each = λ k p i get there.
-        elim (pushed places place p k get) [
-            inl old ↦ has.each k p i old there
-            | inr new ↦
-                let e : k ≡ n = new.0 ∙ has.count in
-                let f : Some identity ≡ Some i = sym at ∙ ap (slice_get identities) (sym e) ∙ there in
-                let g : identity ≡ i = cc in
-                let P : ℕ → Place → Identity → Type 0 = λ m q j. IsBefore q m × StandsAt identities q j.base in
-                subst (λ m. P m p i) (sym e) (subst (λ q. P n q i) new.1 (subst (λ j. P n place j) g (before, stands)))
-        ];
+  count = length_push places place ∙ ap (λ m. m + 1) has.count;
+  each = λ k p i get there.
+      elim (pushed places place p k get) [
+        | inl old ↦ has.each k p i old there
+        | inr new ↦
+            let e : k ≡ n = new.0 ∙ has.count in
+            let f : Some identity ≡ Some i = sym at ∙ ap (slice_get identities) (sym e) ∙ there in
+            let g : identity ≡ i = cc in
+            let P : ℕ → Place → Identity → Type 0 = λ m q j. IsBefore q m × StandsAt identities q j.base in
+            subst (λ m. P m p i) (sym e) (subst (λ q. P n q i) new.1 (subst (λ j. P n place j) g (before, stands)))
+      ];
 }
 
 -- the one row of its type and qualifier
 pub only_row : (i : InventoryView) → ((n : ℕ) → ¬ (IsDuplicateRow i.rows n)) → (k : ℕ) (row : Row) (type_id qualifier : List ℕ) → slice_get i.rows k ≡ Some row
     → row.type_id ≡ type_id → row.qualifier ≡ qualifier → IsOnlyRow i type_id qualifier row
 only_row i none k row type_id qualifier at same_type same_qualifier = record {
-    is = record { place = k; stands = at; same_type = same_type; same_qualifier = same_qualifier };
-    only = λ other o. one_row i.rows o.place k other row none o.stands at (o.same_type ∙ sym same_type) (o.same_qualifier ∙ sym same_qualifier);
+  is = record { place = k; stands = at; same_type = same_type; same_qualifier = same_qualifier };
+  only = λ other o. one_row i.rows o.place k other row none o.stands at (o.same_type ∙ sym same_type) (o.same_qualifier ∙ sym same_qualifier);
 }
 
 -- none of the first rows is of the type and qualifier
@@ -143,11 +143,11 @@ pub none_of_next : (rows : List Row) (type_id qualifier : List ℕ) (n : ℕ) (r
 none_of_next rows type_id qualifier n row before at other k found lt there same_type same_qualifier =
     let le : k ≤ n = omega arith in
     elim (eq-or-lt_of_le le) [
-        inl e ↦
-            let f : Some row ≡ Some found = sym at ∙ ap (slice_get rows) (sym e) ∙ there in
-            let p : row ≡ found = cc in
-            other (ap (λ (r : Row). r.type_id) p ∙ same_type) (ap (λ (r : Row). r.qualifier) p ∙ same_qualifier)
-        | inr below ↦ before k found below there same_type same_qualifier
+      | inl e ↦
+          let f : Some row ≡ Some found = sym at ∙ ap (slice_get rows) (sym e) ∙ there in
+          let p : row ≡ found = cc in
+          other (ap (λ (r : Row). r.type_id) p ∙ same_type) (ap (λ (r : Row). r.qualifier) p ∙ same_qualifier)
+      | inr below ↦ before k found below there same_type same_qualifier
     ]
 
 pub none_is_of : (i : InventoryView) (type_id qualifier : List ℕ) → NoneOf i.rows type_id qualifier (length i.rows) → (row : Row) → ¬ (IsRowOf i type_id qualifier row)

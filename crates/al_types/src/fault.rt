@@ -39,7 +39,10 @@ impl fmt::Display for InventoryFault {
                 write!(f, "the base of identity {n} isn't declared before")
             }
             InventoryFault::DuplicateRow(n) => {
-                write!(f, "row {n} repeats the type and qualifier of an earlier one")
+                write!(
+                    f,
+                    "row {n} repeats the type and qualifier of an earlier one"
+                )
             }
             InventoryFault::Memory => f.write_str("out of memory"),
         }

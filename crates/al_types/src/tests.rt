@@ -35,25 +35,62 @@ fn rows(rt: &HostRuntime, kinds: &[(&str, &str)]) -> Result<List<Row>, Fail> {
     Ok(List::of(rows))
 }
 
-#[test]
-fn refuses_in_order(rt: HostRuntime) -> Result<(), Fail> {
-    let alloc = rt.alloc();
-    let many = vec![in alloc; ("ex:a", ""); 2001]?;
-    let cases: [(&[(&str, &str)], &[(&str, &str)], InventoryFault); 7] = [
-        (&[("ex:a", "ex:b")], &[], InventoryFault::UnknownBase(0)),
-        (&[(ROOT, ROOT)], &[], InventoryFault::DuplicateIdentity(0)),
-        (&[("ex:a", "ex:b"), ("ex:a", ROOT)], &[], InventoryFault::DuplicateIdentity(1)),
-        (&[("ex:a", "ex:a")], &[], InventoryFault::UnknownBase(0)),
-        (&[], &[("ex:a", "q"), ("ex:a", "q")], InventoryFault::DuplicateRow(1)),
-        (&[("ex:a", "ex:b")], &[("ex:a", ""), ("ex:a", "")], InventoryFault::UnknownBase(0)),
-        (&[("ex:a", "ex:b")], many.as_slice(), InventoryFault::TooMany),
-    ];
-    for (pairs, kinds, fault) in &cases {
-        match Inventory::build(alloc, identities(&rt, pairs)?, rows(&rt, kinds)?) {
-            Ok(_) => panic!(rt; "an inventory in place of {fault}"),
-            Err(found) => assert_eq!(rt; found, *fault),
-        }
+fn fault_of(
+    rt: &HostRuntime,
+    pairs: &[(&str, &str)],
+    kinds: &[(&str, &str)],
+) -> Result<Option<InventoryFault>, Fail> {
+    match Inventory::build(rt.alloc(), identities(rt, pairs)?, rows(rt, kinds)?) {
+        Ok(_) => Ok(None),
+        Err(fault) => Ok(Some(fault)),
     }
+}
+
+#[test]
+fn refuses_identities(rt: HostRuntime) -> Result<(), Fail> {
+    let cases: [([(&str, &str); 2], InventoryFault); 4] = [
+        (
+            [("ex:a", "ex:b"), ("ex:b", ROOT)],
+            InventoryFault::UnknownBase(0),
+        ),
+        (
+            [(ROOT, ROOT), ("ex:a", ROOT)],
+            InventoryFault::DuplicateIdentity(0),
+        ),
+        (
+            [("ex:a", "ex:b"), ("ex:a", ROOT)],
+            InventoryFault::DuplicateIdentity(1),
+        ),
+        (
+            [("ex:b", ROOT), ("ex:a", "ex:a")],
+            InventoryFault::UnknownBase(1),
+        ),
+    ];
+    for (pairs, fault) in &cases {
+        assert_eq!(rt; fault_of(&rt, pairs, &[])?, Some(*fault));
+    }
+    Ok(())
+}
+
+#[test]
+fn refuses_rows(rt: HostRuntime) -> Result<(), Fail> {
+    let twice = [("ex:a", "q"), ("ex:a", "q")];
+    assert_eq!(rt;
+        fault_of(&rt, &[], &twice)?,
+        Some(InventoryFault::DuplicateRow(1))
+    );
+    assert_eq!(rt;
+        fault_of(&rt, &[("ex:a", "ex:b")], &twice)?,
+        Some(InventoryFault::UnknownBase(0))
+    );
+    assert_eq!(rt;
+        fault_of(&rt, &[], &[("ex:a", "q"); 2001])?,
+        Some(InventoryFault::TooMany)
+    );
+    assert_eq!(rt;
+        fault_of(&rt, &[("ex:a", ROOT); 2001], &[])?,
+        Some(InventoryFault::TooMany)
+    );
     Ok(())
 }
 

@@ -10,12 +10,14 @@ pub returns-in_default-clause-fault : goal.returns-in_default-clause-fault
 returns-in_default-clause-fault c =
     let lt : c.loop-n.n < length c.args.identities.now = omega arith in
     let here = get_or c.args.identities.now c.loop-n.n c.index-identities-n.result in
-    let at = slice_get-get_or c.args.identities.now c.loop-n.n c.index-identities-n.result lt in
-    (record {
+    let at = slice_get-get_or c.args.identities.now c.loop-n.n c.index-identities-n.result lt in (
+      record {
         identity = here;
         stands = at;
         unknown = c.in_default.ensures;
-    }, λ k below. known_below c.args.identities.now c.loop-n.bases.items c.loop-n.n c.loop-n.invariant k below)
+      },
+      λ k below. known_below c.args.identities.now c.loop-n.bases.items c.loop-n.n c.loop-n.invariant k below,
+    )
 
 pub loop-n-preserved : goal.loop-n-preserved
 loop-n-preserved c =

@@ -18,12 +18,12 @@ loop-place-preserved c =
     let at = slice_get_read c.args.identities.now (length c.args.identities.now) c.loop-place.place c.index-identities-place.result refl lt c.index-identities-place.is in
     let other : ¬ (c.index-identities-place.result.name ≡ c.args.name.now) = search rules in
     none_to (λ k. IsNamed c.args.identities.now k c.args.name.now) c.loop-place.place c.loop-place.invariant
-        (λ named. other (name_there c.args.identities.now c.loop-place.place c.index-identities-place.result c.args.name.now at named))
+    (λ named. other (name_there c.args.identities.now c.loop-place.place c.index-identities-place.result c.args.name.now at named))
 
 pub returns : goal.returns
 returns c =
     let other : ¬ (c.args.name.now ≡ root) = search rules in
     λ known. elim known [
-        inl e ↦ other e
-        | inr e ↦ (let lt : e.0 < c.args.n = e.1 in c.loop-place.invariant e.0 (omega arith) e.2)
+      | inl e ↦ other e
+      | inr e ↦ (let lt : e.0 < c.args.n = e.1 in c.loop-place.invariant e.0 (omega arith) e.2)
     ]

@@ -26,7 +26,7 @@ loop-row-preserved c =
     let lt : c.loop-row.row-index < length c.as_slice-row-items.result.now = omega arith in
     let there = slice_get_read c.as_slice-row-items.result.now (length c.as_slice-row-items.result.now) c.loop-row.row-index c.row-item.result refl lt c.row-item.is in
     none_of_next c.as_slice-row-items.result.now c.args.t.now c.args.qualifier.now c.loop-row.row-index c.row-item.result c.loop-row.invariant there
-        (λ type_ids qualifiers. (let yes = c.is_of.ensures.1 (type_ids, qualifiers) in absurd (cc)))
+    (λ type_ids qualifiers. (let yes = c.is_of.ensures.1 (type_ids, qualifiers) in absurd (cc)))
 
 pub returns-clause-none : goal.returns-clause-none
 returns-clause-none c =
