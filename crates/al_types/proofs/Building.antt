@@ -1,7 +1,7 @@
 -- How the parts of a build make its answer.
 use Rattle.std.proofs.Common.{◌≡◌, ℕ, List, length, refl, inl, inr, subst, sym}
-use Rattle.std.specs.Prelude.{Err, IsErr, IsErrAnd, None, Ok, Result, Some}
-use Rattle.al_types.specs.Faults.{AreFew, IsSound, IsBuilt}
+use Rattle.std.specs.Prelude.{Err, IsErrAnd, None, Ok, Result, Some}
+use Rattle.al_types.specs.Faults.{AreFew, IsBuilt}
 use Rattle.al_types.specs.Inventories.{InventoryView}
 use Rattle.al_types.specs.Known.{IsDuplicateIdentity, IsDuplicateRow, IsFirst}
 use Rattle.al_types.specs.Places.{IsBaseFault, HasBases, IsInventory}

@@ -1,11 +1,11 @@
 -- Following one base after the other.
-use Rattle.std.proofs.Common.{◌≡◌, ℕ, ◌+◌, ◌<◌, ◌≤◌, ◌⊎◌, List, [], ◌∷◌, length, refl, sym, ◌∙◌, ap, inl, inr, arith, subst, true, false, rules}
+use Rattle.std.proofs.Common.{◌≡◌, ℕ, ◌+◌, ◌<◌, ◌≤◌, List, [], ◌∷◌, length, refl, sym, ◌∙◌, ap, inl, inr, arith, subst, true, false, rules}
 use Rattle.std.proofs.lemmas.Bool.{cases_order}
 use Rattle.std.proofs.lemmas.Option.{slice_get_within}
 use Rattle.std.specs.Prelude.{Some, slice_get}
 use Rattle.al_types.specs.Faults.{IsSound}
 use Rattle.al_types.specs.Inventories.{InventoryView, Declares, Leads, DerivesFrom}
-use Rattle.al_types.specs.Known.{root, IsNamed, IsKnownBefore, IsUnknownBase}
+use Rattle.al_types.specs.Known.{root, IsNamed, IsKnownBefore}
 use Rattle.al_types.specs.Places.{StandsAt, IsBefore, IsInventory, IsStanding, TellsDerivation}
 use Rattle.al_types.specs.declared.place.Place.{Place}
 use Rattle.al_types.specs.declared.place.Place.TheVariants.{Root, Declared}

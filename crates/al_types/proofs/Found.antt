@@ -4,10 +4,9 @@ use Rattle.std.proofs.Math.Nat.{eq-or-lt_of_le}
 use Rattle.std.proofs.lemmas.Bool.{cases_order}
 use Rattle.std.proofs.lemmas.List.{length_push}
 use Rattle.std.proofs.lemmas.Option.{slice_get_within, slice_get-get_or}
-use Rattle.std.specs.Prelude.{Option, None, Some, slice_get, get_or}
-use Rattle.al_types.specs.Faults.{IsSound}
+use Rattle.std.specs.Prelude.{Option, None, Some, slice_get}
 use Rattle.al_types.specs.Inventories.{InventoryView, IsRowOf, IsOnlyRow}
-use Rattle.al_types.specs.Known.{root, IsNamed, IsKnownBefore, IsDuplicateIdentity, IsUnknownBase, IsDuplicateRow}
+use Rattle.al_types.specs.Known.{IsNamed, IsKnownBefore, IsDuplicateIdentity, IsUnknownBase, IsDuplicateRow}
 use Rattle.al_types.specs.Places.{StandsAt, IsBefore, HasBases}
 use Rattle.al_types.specs.declared.place.Place.{Place}
 use Rattle.al_types.specs.declared.place.Place.TheVariants.{Root, Declared}

@@ -1,5 +1,5 @@
 -- Which lists make an inventory, and which fault others have.
-use Rattle.std.specs.Prelude.{◌≡◌, ℕ, ◌<◌, ◌≤◌, ◌⊎◌, List, None, Some, length, Result, Ok, Err, ⊤}
+use Rattle.std.specs.Prelude.{◌≡◌, ℕ, ◌≤◌, ◌⊎◌, List, None, Some, length, Result, Ok, Err}
 use Rattle.al_types.specs.Inventories.{InventoryView}
 use Rattle.al_types.specs.Known.{IsDuplicateIdentity, IsUnknownBase, IsDuplicateRow, IsFirst}
 use Rattle.al_types.specs.declared.fault.InventoryFault.{InventoryFault}

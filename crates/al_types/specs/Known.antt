@@ -1,5 +1,5 @@
 -- What an identity or a row repeats, and which bases are unknown.
-use Rattle.std.specs.Prelude.{◌≡◌, ℕ, ◌<◌, ◌≤◌, ◌⊎◌, List, Option, None, Some, codes, length, slice_get}
+use Rattle.std.specs.Prelude.{◌≡◌, ℕ, ◌<◌, ◌⊎◌, List, Option, None, Some, codes, slice_get}
 use Rattle.al_types.specs.declared.row.Identity.{Identity}
 use Rattle.al_types.specs.declared.row.Row.{Row}
 

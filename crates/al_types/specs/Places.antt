@@ -1,5 +1,5 @@
 -- Where the types of an inventory stand.
-use Rattle.std.specs.Prelude.{◌≡◌, ℕ, ◌<◌, ◌≤◌, ◌↔◌, Bool, IsTrue, List, Option, None, Some, length, slice_get, ⊤}
+use Rattle.std.specs.Prelude.{◌≡◌, ℕ, ◌<◌, ◌↔◌, Bool, IsTrue, List, Option, None, Some, length, slice_get, ⊤}
 use Rattle.al_types.specs.Faults.{IsSound}
 use Rattle.al_types.specs.Inventories.{InventoryView, DerivesFrom}
 use Rattle.al_types.specs.Known.{root, IsNamed, IsKnownBefore, IsUnknownBase, IsFirst}

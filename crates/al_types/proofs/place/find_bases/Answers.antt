@@ -1,8 +1,6 @@
-use Rattle.std.proofs.Common.{◌≡◌, ℕ, ◌<◌, ◌≤◌, List, [], ◌∷◌, ◌++◌, length, refl, arith, rules, subst, sym}
+use Rattle.std.proofs.Common.{◌≡◌, ◌<◌, [], ◌∷◌, ◌++◌, length, arith, rules}
 use Rattle.std.proofs.lemmas.Option.{slice_get-get_or}
-use Rattle.std.specs.Prelude.{Some, get_or, slice_get}
-use Rattle.al_types.specs.Known.{IsUnknownBase}
-use Rattle.al_types.specs.Places.{HasBases}
+use Rattle.std.specs.Prelude.{get_or}
 use Rattle.al_types.proofs.Found.{has_more, known_below}
 use Rattle.al_types.proofs.place.find_bases.Goals as goal
 

@@ -1,4 +1,3 @@
-use Rattle.std.proofs.Common.{ℕ, ◌<◌}
 use Rattle.al_types.specs.Places.{HasBases}
 use Rattle.al_types.proofs.place.find_bases.Given as goal
 

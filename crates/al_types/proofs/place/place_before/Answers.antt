@@ -1,6 +1,5 @@
-use Rattle.std.proofs.Common.{◌≡◌, ℕ, ◌<◌, ◌≤◌, List, length, refl, inl, inr, arith, rules}
+use Rattle.std.proofs.Common.{◌≡◌, ◌<◌, length, refl, inl, inr, arith, rules}
 use Rattle.std.proofs.lemmas.Option.{slice_get_read}
-use Rattle.std.specs.Prelude.{Some, slice_get}
 use Rattle.al_types.specs.Known.{root, IsNamed}
 use Rattle.al_types.proofs.Found.{none_to, named_here, name_there}
 use Rattle.al_types.proofs.place.place_before.Goals as goal

@@ -1,6 +1,6 @@
-use Rattle.std.proofs.Common.{◌≡◌, ℕ, ◌<◌, ◌≤◌, List, length, refl, arith, rules}
+use Rattle.std.proofs.Common.{◌<◌, length, arith}
 use Rattle.std.proofs.lemmas.Option.{slice_get-get_or}
-use Rattle.std.specs.Prelude.{Some, get_or, slice_get}
+use Rattle.std.specs.Prelude.{get_or}
 use Rattle.al_types.specs.Known.{IsDuplicateIdentity}
 use Rattle.al_types.proofs.Found.{none_to, not_duplicate, none_duplicate, known_from}
 use Rattle.al_types.proofs.repeats.duplicate_identity.Goals as goal

@@ -1,4 +1,4 @@
-use Rattle.std.proofs.Common.{◌≡◌, ℕ, ◌<◌, ◌≤◌, List, length, arith}
+use Rattle.std.proofs.Common.{arith}
 use Rattle.al_types.specs.Known.{IsDuplicateRow}
 use Rattle.al_types.proofs.Found.{none_to, none_repeated}
 use Rattle.al_types.proofs.repeats.duplicate_row.Goals as goal

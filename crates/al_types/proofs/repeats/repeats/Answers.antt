@@ -1,8 +1,7 @@
-use Rattle.std.proofs.Common.{◌≡◌, ℕ, ◌<◌, ◌≤◌, ◌↔◌, List, length, refl, arith, rules, ap, sym, ◌∙◌}
+use Rattle.std.proofs.Common.{◌<◌, length, refl, arith, rules}
 use Rattle.std.proofs.lemmas.Option.{slice_get_read}
-use Rattle.std.specs.Prelude.{Some, slice_get}
 use Rattle.al_types.specs.Known.{IsDuplicateRow}
-use Rattle.al_types.proofs.Found.{none_before_next, repeats_none}
+use Rattle.al_types.proofs.Found.{none_before_next}
 use Rattle.al_types.proofs.repeats.repeats.Goals as goal
 
 pub returns-then-is_of : goal.returns-then-is_of

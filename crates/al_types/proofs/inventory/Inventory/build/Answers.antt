@@ -1,4 +1,4 @@
-use Rattle.std.proofs.Common.{◌≡◌, ℕ, ◌≤◌, List, length, refl, inr, sym, subst, rules}
+use Rattle.std.proofs.Common.{List, length, refl, inr, subst}
 use Rattle.std.specs.Prelude.{None, Some}
 use Rattle.al_types.specs.Faults.{AreFew}
 use Rattle.al_types.specs.Known.{IsDuplicateIdentity, IsDuplicateRow, IsFirst}

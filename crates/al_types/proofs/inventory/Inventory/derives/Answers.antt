@@ -1,4 +1,4 @@
-use Rattle.std.proofs.Common.{◌≡◌, ℕ, List, length, subst, rules}
+use Rattle.std.proofs.Common.{◌≡◌, length, subst, rules}
 use Rattle.std.specs.Prelude.{Option, None}
 use Rattle.al_types.specs.Places.{IsPlaceBefore}
 use Rattle.al_types.specs.declared.place.Place.{Place}

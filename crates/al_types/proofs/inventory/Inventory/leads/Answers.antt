@@ -1,6 +1,5 @@
-use Rattle.std.proofs.Common.{◌≡◌, ℕ, ◌<◌, List, length, refl, subst, sym, rules}
+use Rattle.std.proofs.Common.{◌≡◌, ◌<◌, length, refl, subst, sym, rules}
 use Rattle.std.proofs.lemmas.Option.{slice_get_read, slice_get_within}
-use Rattle.std.specs.Prelude.{Some, slice_get}
 use Rattle.al_types.specs.Inventories.{InventoryView}
 use Rattle.al_types.specs.declared.place.Place.{Place}
 use Rattle.al_types.specs.declared.place.Place.TheVariants.{Root, Declared}

@@ -1,5 +1,3 @@
-use Rattle.std.proofs.Common.{ℕ}
-use Rattle.al_types.specs.Places.{IsStanding}
 use Rattle.al_types.proofs.Derivations.{GoesOn, depth}
 use Rattle.al_types.proofs.inventory.Inventory.leads.Given as goal
 

@@ -1,4 +1,4 @@
-use Rattle.std.proofs.Common.{◌≡◌, ℕ, ◌<◌, ◌≤◌, List, length, refl, arith, subst, sym}
+use Rattle.std.proofs.Common.{◌≡◌, ◌<◌, List, length, refl, arith, subst}
 use Rattle.std.proofs.lemmas.Option.{slice_get_read}
 use Rattle.std.specs.Prelude.{Some, slice_get}
 use Rattle.al_types.specs.Inventories.{InventoryView}
