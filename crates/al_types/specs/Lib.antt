@@ -1,0 +1,4 @@
+pub mod Faults
+pub mod Inventories
+pub mod Known
+pub mod Places

@@ -1,0 +1,14 @@
+//! What a device may raise alarms of: the declared alarm types and the rows of the alarm inventory.
+#![tactic(auto)]
+
+pub mod fault;
+pub mod inventory;
+mod place;
+mod repeats;
+pub mod row;
+#[cfg(test)]
+mod tests;
+
+pub use fault::InventoryFault;
+pub use inventory::{Inventory, MAX_DECLARED};
+pub use row::{Identity, Row};
