@@ -59,7 +59,7 @@ impl<T: Drop> From<AllocFailed<T>> for ReadError {
 }
 
 /// Why a text is no pattern; each place counts bytes from the front.
-#[derive(Debug, PartialEq, Eq, Drop)]
+#[derive(Clone, Copy, Debug, PartialEq, Eq)]
 pub enum PatternFault {
     /// No pattern has this byte here, or the text ends too soon, or a range that begins here falls.
     Syntax(usize),
