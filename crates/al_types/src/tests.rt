@@ -47,6 +47,15 @@ fn equal_rows(alloc: Global, count: usize) -> Result<List<Row>, Fail> {
     Ok(List::of(rows))
 }
 
+/// So many identities of one name.
+fn equal_identities(alloc: Global, count: usize) -> Result<List<Identity>, Fail> {
+    let mut identities = Vec::new(alloc);
+    for _ in 0..count {
+        identities.push(identity(alloc, "ex:a", ROOT)?)?;
+    }
+    Ok(List::of(identities))
+}
+
 /// The fault of the lists, if they have one.
 fn fault_of(alloc: Global, identities: List<Identity>, rows: List<Row>) -> Option<InventoryFault> {
     Inventory::build(alloc, identities, rows).err()
@@ -81,6 +90,22 @@ fn refuses_identities(rt: HostRuntime) -> Result<(), Fail> {
         let identities = two_identities(alloc, names, bases)?;
         assert_eq!(rt;
             fault_of(alloc, identities, equal_rows(alloc, 2)?),
+            Some(fault)
+        );
+    }
+    Ok(())
+}
+
+#[test]
+fn refuses_too_many_identities(rt: HostRuntime) -> Result<(), Fail> {
+    let alloc = rt.alloc();
+    for (count, fault) in [
+        (2000, InventoryFault::DuplicateIdentity(1)),
+        (2001, InventoryFault::TooMany),
+    ] {
+        let identities = equal_identities(alloc, count)?;
+        assert_eq!(rt;
+            fault_of(alloc, identities, equal_rows(alloc, 0)?),
             Some(fault)
         );
     }
