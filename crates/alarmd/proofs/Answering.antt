@@ -1,5 +1,5 @@
 -- From what the office did with a report to the machine's answer.
-use Rattle.std.proofs.Common.{◌≡◌, ◌↔◌, ℕ, ◌≤◌, Bool, true, IsTrue, Some, Result, Ok, Err, IfOk, List, [], ◌∷◌, ◌++◌, length, refl, sym, inl, inr, arith}
+use Rattle.std.proofs.Common.{◌≡◌, ◌↔◌, ℕ, ◌≤◌, Bool, true, IsTrue, Some, Result, Ok, Err, IfOk, List, [], ◌∷◌, ◌++◌, length, codes, refl, sym, ◌∙◌, inl, inr, arith}
 use Rattle.std.specs.Prelude.{All}
 use Rattle.std.proofs.lemmas.List.{append-nil}
 use Rattle.std.proofs.lemmas.List.Elements.{All-from_recursion}
@@ -16,7 +16,7 @@ use Rattle.al_model.specs.declared.entry.Entry.{Entry}
 use Rattle.al_model.specs.declared.request.Request.{Request}
 use Rattle.al_office.specs.Office.{IsAsDecided, IsAnswer as IsOfficeAnswer}
 use Rattle.alarmd.specs.Exchanges.{Answered}
-use Rattle.alarmd.specs.Machine.{AsksCount, BringsReport, AnswersReport, Carries, IsAnswer, clock_at_its_end, no_such_path}
+use Rattle.alarmd.specs.Machine.{AsksCount, BringsReport, AnswersReport, Carries, IsAnswer, RefusesPath, clock_at_its_end, count_response}
 use Rattle.alarmd.specs.Reports.{IsReport}
 
 -- the answer to the one report of a body, when it was decided upon
@@ -62,6 +62,12 @@ module _ (old new : List Entry) (origin : ℕ) (body : List ℕ) (now : ℕ) (re
   answers_ended is only (inl memory) told = absurd (let no = memory.0 in cc)
   answers_ended is only (inr decided) told = ended_by (decision_of (replay old) report now) refl is only decided told
 
+-- no request asks for the count and brings a report
+not_both : {request : RequestMessage} → AsksCount request → BringsReport request → ⊥
+not_both asks brings =
+    let same : codes "GET" ≡ codes "POST" = sym asks.method ∙ brings.method in
+    cc
+
 -- the answer to a report is the machine's
 reported : (before after : List Entry) (origin : ℕ) (request : RequestMessage) (reading : ℕ) (response : Response) → ¬ (AsksCount request) → BringsReport request → AnswersReport before after origin request.body reading response → Answered IsAnswer before after origin request reading response
 reported before after origin request reading response other brings a =
@@ -83,7 +89,7 @@ answers_report before after origin request reading (Ok response) other brings a 
 answers_report before after origin request reading (Err error) other brings a = tt
 
 -- the answer to a request that isn't known
-pub answers_unknown : (before : List Entry) (origin : ℕ) (request : RequestMessage) (reading : ℕ) (response : Response) → ¬ (AsksCount request) → ¬ (BringsReport request) → response ≡ refusal no_such_path (Some (length before)) → Answered IsAnswer before before origin request reading response
+pub answers_unknown : (before : List Entry) (origin : ℕ) (request : RequestMessage) (reading : ℕ) (response : Response) → ¬ (AsksCount request) → ¬ (BringsReport request) → RefusesPath request (length before) response → Answered IsAnswer before before origin request reading response
 answers_unknown before origin request reading response no_count no_report told =
     record {
       entries = [];
@@ -97,6 +103,23 @@ answers_unknown before origin request reading response no_count no_report told =
       own = none_own origin;
       few = omega arith;
     }
+
+-- the answer to a request for the count
+pub answers_count : {E : Type 0} (before : List Entry) (origin : ℕ) (request : RequestMessage) (reading : ℕ) (result : Result Response E) → AsksCount request → IfOk result (λ response. response ≡ count_response (length before) (length (replay before).alarms)) → IfOk result (Answered IsAnswer before before origin request reading)
+answers_count before origin request reading (Ok response) asks told =
+    record {
+      entries = [];
+      answer = record {
+        count = λ _. (told, refl);
+        report = λ _ brings _. absurd (not_both asks brings);
+        no_report = λ brings _. absurd (not_both asks brings);
+        other = λ no _. absurd (no asks);
+      };
+      grown = sym (append-nil before);
+      own = none_own origin;
+      few = omega arith;
+    }
+answers_count before origin request reading (Err error) asks told = tt
 
 -- what a test that passed says
 pub holds : (P : Type 0) (b : Bool) → (IsTrue b ↔ P) → b ≡ true → P

@@ -1,5 +1,5 @@
 -- What the server answers: the machine of its resources, over a history.
-use Rattle.std.specs.Prelude.{◌≡◌, ℕ, ◌≤◌, Some, None, false, List, [], ◌∷◌, ◌++◌, length, All, codes, decimal}
+use Rattle.std.specs.Prelude.{◌≡◌, ℕ, ◌≤◌, Some, None, true, false, List, [], ◌∷◌, ◌++◌, length, All, codes, decimal}
 use Rattle.al_model.specs.Decision.{decision_of, entry_of}
 use Rattle.al_model.specs.History.{replay}
 use Rattle.al_model.specs.declared.decision.Decision.{Decision}
@@ -32,6 +32,18 @@ abbrev pub count_response : ℕ → ℕ → Response
 count_response place count =
     record { status = 200; place = Some place; allow = 0; location = None; content = Tree (count_text count); bare = false }
 
+-- the same response, of which only the status line and the fields are sent
+abbrev pub without_body : Response → Response
+without_body response =
+    record {
+      status = response.status;
+      place = response.place;
+      allow = response.allow;
+      location = response.location;
+      content = response.content;
+      bare = true;
+    }
+
 -- error rows by their numbers
 abbrev pub no_such_path : ℕ
 no_such_path = 5
@@ -41,6 +53,11 @@ bad_value = 15
 
 abbrev pub clock_at_its_end : ℕ
 clock_at_its_end = 26
+
+-- the refusal of a path; a response to HEAD leaves the body out (RFC 9110, section 9.3.2)
+pub record RefusesPath (request : RequestMessage) (place : ℕ) (response : Response) : Type 0 where
+  pub head : request.method ≡ codes "HEAD" → response ≡ without_body (refusal no_such_path (Some place))
+  pub other : ¬ (request.method ≡ codes "HEAD") → response ≡ refusal no_such_path (Some place)
 
 -- what a decision on a report answers over a history, and the entries that it adds: just the one of a change
 abbrev pub Carries : Decision → List Entry → ℕ → ℕ → Response → List Entry → Type 0
@@ -67,4 +84,4 @@ pub record IsAnswer (before : List Entry) (origin : ℕ) (request : RequestMessa
   -- a body that is no report is refused
   pub no_report : BringsReport request → ((report : Request) → ¬ (IsReport request.body report)) → (response ≡ refusal bad_value (Some (length before))) × (entries ≡ [])
   -- no other request is known
-  pub other : ¬ (AsksCount request) → ¬ (BringsReport request) → (response ≡ refusal no_such_path (Some (length before))) × (entries ≡ [])
+  pub other : ¬ (AsksCount request) → ¬ (BringsReport request) → RefusesPath request (length before) response × (entries ≡ [])

@@ -6,7 +6,7 @@ ghost use Rattle.al_http.specs.Responses.{HasText};
 ghost use Rattle.al_http.specs.Shown.{message_of};
 ghost use Rattle.al_model.specs.History.{replay};
 ghost use Rattle.alarmd.specs.Exchanges.{Answered};
-ghost use Rattle.alarmd.specs.Machine.{AsksCount, BringsReport, AnswersReport, IsAnswer, count_response, count_text};
+ghost use Rattle.alarmd.specs.Machine.{AsksCount, BringsReport, AnswersReport, IsAnswer, RefusesPath, count_response, count_text};
 
 use crate::report::{ReportFault, read_report};
 use crate::service::Service;
@@ -24,6 +24,9 @@ const BAD_VALUE: u8 = 15;
 
 /// The number of the refusal `clock at its end`.
 const CLOCK_AT_ITS_END: u8 = 26;
+
+/// The method that asks for no body.
+const HEAD: &[u8] = b"HEAD";
 
 const COUNT_PATH: &[u8] = b"/restconf/data/ietf-alarms:alarms/alarm-list/number-of-alarms";
 
@@ -59,8 +62,19 @@ impl Service<Office> for Machine {
         if brings_report(request) {
             return take_report(self.alloc, office, origin, request.body(), now);
         }
-        Ok(Response::of_row(NO_SUCH_PATH, Some(office.entries())))
+        Ok(refuse_path(request, office.entries()))
     }
+}
+
+/// The answer to a request that isn't known.
+fn refuse_path(request: &HttpRequest, place: u64) -> Response
+    ensures refused { RefusesPath (message_of request.now) place result }
+    ensures place { result.place ≡ Some place }
+    ensures text { HasText result }
+{
+    let mut response = Response::of_row(NO_SUCH_PATH, Some(place));
+    response.bare = request.method() == HEAD;
+    response
 }
 
 /// Whether the method and the path are these, without a query.
