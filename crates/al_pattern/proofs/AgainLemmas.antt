@@ -279,7 +279,7 @@ letter_takes : (l : Letter) → 1 ≤ length (letter_spelling l)
 letter_takes (Plain b) = omega arith
 letter_takes (Escaped b) = omega arith
 
-item_takes : (item : Item) → 1 ≤ length (item_spelling item)
+pub item_takes : (item : Item) → 1 ≤ length (item_spelling item)
 item_takes (One l) = letter_takes l
 item_takes (Range first last) = omega (arith, length-append (letter_spelling first) (45 ∷ letter_spelling last), letter_takes first)
 item_takes Digit = omega arith

@@ -143,7 +143,7 @@ ending_with : (o : Option Choice) (b : Branch) (a : Atom) (q : Quantifier) → w
 ending_with None b a q = refl
 ending_with (Some x) b a q = refl
 
-test_takes : (t : Test) (rest : List ℕ) → is_test t ≡ true → length rest < length (test_spelling t ++ rest)
+pub test_takes : (t : Test) (rest : List ℕ) → is_test t ≡ true → length rest < length (test_spelling t ++ rest)
 test_takes t rest e =
     let h = test_head t [] e in
     omega (arith, length-append (test_spelling t) rest, ap length (sym (append-nil (test_spelling t)) ∙ h.whole))

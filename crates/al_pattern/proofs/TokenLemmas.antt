@@ -42,7 +42,7 @@ pub record TokenRead (depth nodes : ℕ) (text : List ℕ) (sign : Sign) (nodes'
   pub fits : FitsAt depth sign
 
 -- a byte that begins a node, and isn't one of those that begin others, is a character
-begins_char : (b : ℕ) → begins_node b ≡ true → (b == 124) ≡ false → (b == 40) ≡ false → (b == 46) ≡ false → (b == 92) ≡ false → (b == 91) ≡ false → is_char b ≡ true
+pub begins_char : (b : ℕ) → begins_node b ≡ true → (b == 124) ≡ false → (b == 40) ≡ false → (b == 46) ≡ false → (b == 92) ≡ false → (b == 91) ≡ false → is_char b ≡ true
 begins_char b begins bar' open' dot' slash' class' = elim (or_true (is_char b) (among (46 ∷ 92 ∷ 91 ∷ 40 ∷ 124 ∷ []) b) begins) [
   | inl h ↦ h
   | inr h ↦ absurd (grind (arith, nat_tests))

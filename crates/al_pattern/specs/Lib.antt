@@ -5,6 +5,7 @@ pub mod Faults
 pub mod Language
 pub mod Letters
 pub mod Patterns
+pub mod Places
 pub mod Programs
 pub mod Reading
 pub mod Sets

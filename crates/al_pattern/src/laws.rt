@@ -1,6 +1,8 @@
 //! What holds of all patterns.
 
-ghost use Rattle.std.specs.Prelude.{◌≡◌, ◌↔◌, ℕ, List, None};
+ghost use Rattle.std.specs.Prelude.{◌≡◌, ◌↔◌, ℕ, List, Some, None};
+ghost use Rattle.al_pattern.specs.Places.{IsPlaced};
+ghost use Rattle.al_pattern.specs.declared.fault.PatternFault.{PatternFault};
 ghost use Rattle.al_pattern.specs.Reading.{tree_of, first_fault};
 ghost use Rattle.al_pattern.specs.Trees.{Choice, IsSpelled};
 
@@ -17,4 +19,9 @@ pub fn tree_of_text()
 /// Exactly the texts that spell a tree have no fault.
 pub fn no_fault()
     ensures { (text : List ℕ) → (first_fault text ≡ None ↔ IsSpelled (tree_of text) text) }
+{}
+
+/// The first fault of a text stands where the grammar says, and no other does.
+pub fn fault_place()
+    ensures { (text : List ℕ) (fault : PatternFault) → (first_fault text ≡ Some fault ↔ IsPlaced text fault) }
 {}

@@ -1,8 +1,9 @@
 //! Patterns.
 
-ghost use Rattle.std.specs.Prelude.{◌≡◌, ◌↔◌, ◌-◌, ℕ, List, length, None, IsTrue, IfOk, IsOkUnless, MatchResult, IsUtf8, chars};
+ghost use Rattle.std.specs.Prelude.{◌≡◌, ◌↔◌, ◌-◌, ℕ, List, length, None, ◌⊎◌, IsTrue, IfOk, IfErr, IsOkUnless, MatchResult, IsUtf8, chars};
 ghost use Rattle.al_pattern.specs.Faults.{Fails};
 ghost use Rattle.al_pattern.specs.Language.{IsInLanguage};
+ghost use Rattle.al_pattern.specs.Places.{IsPlaced};
 ghost use Rattle.al_pattern.specs.Reading.{tree_of, first_fault, IsFirstFault, fault_named, reading};
 ghost use Rattle.al_pattern.specs.Trees.{Choice, IsSpelled};
 
@@ -45,6 +46,8 @@ impl Pattern {
         ensures only { (tree : Choice) → IsSpelled tree text.now → IsOkUnless result PatternFault.Memory }
         // An error is the first fault, and what is read has none.
         ensures fault { MatchResult result (λ p. first_fault text.now ≡ None) (λ e. IsFirstFault text.now e) }
+        // It stands where the grammar says: by what trees may begin with, and not by how the text is read.
+        ensures place { IfErr result (λ e. (e ≡ PatternFault.Memory) ⊎ IsPlaced text.now e) }
     {
         match compile(alloc, text) {
             Ok(nodes) => {

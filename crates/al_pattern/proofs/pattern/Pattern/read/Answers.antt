@@ -2,6 +2,7 @@ use Rattle.std.proofs.Common.{refl}
 use Rattle.al_pattern.specs.Reading.{tree_of}
 use Rattle.al_pattern.specs.Programs.{IsCompiled}
 use Rattle.al_pattern.proofs.PatternLemmas.{nodes_compiled, ready_from, spelled_from, no_fault, refused_never}
+use Rattle.al_pattern.proofs.OneFault.{first_placed}
 use Rattle.al_pattern.proofs.pattern.Pattern.read.Goals as goal
 
 pub takes_nothing-nullable-requires : goal.takes_nothing-nullable-requires
@@ -24,3 +25,6 @@ returns-in_ok-source-in-Ok-clause-fault c = no_fault c.args.text.now c.in-Ok.ens
 pub returns-in-Err-clause-only : goal.returns-in-Err-clause-only
 returns-in-Err-clause-only c tree spelled =
     refused_never c.args.text.now tree c.refusal.result spelled (c.refusal.ensures c.args.text.now refl c.in-Err.ensures)
+
+pub returns-in-Err-clause-place : goal.returns-in-Err-clause-place
+returns-in-Err-clause-place c = first_placed c.args.text.now c.refusal.result (c.refusal.ensures c.args.text.now refl c.in-Err.ensures)
