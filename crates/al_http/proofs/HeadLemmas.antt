@@ -16,3 +16,6 @@ pub one_value : (values : List (List ℕ)) (value : List ℕ) → slice_get valu
 one_value [] value e f = cc
 one_value (v ∷ []) value e f = cc
 one_value (v ∷ w ∷ values) value e f = cc
+
+-- what the look-ups of a field tell of its values
+pub ruleset lone_value = (no_value, no_values, one_value)

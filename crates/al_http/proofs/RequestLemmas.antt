@@ -1,13 +1,17 @@
 -- The request whose head and body stand at the front.
-use Rattle.std.proofs.Common.{◌≡◌, ℕ, ◌+◌, ◌≤◌, ◌<◌, List, ◌++◌, length, take, drop, refl, sym, ◌∙◌, ap, inr, append_assoc, arith}
+use Rattle.std.proofs.Common.{◌≡◌, ℕ, ◌+◌, ◌≤◌, ◌<◌, List, ◌++◌, length, take, drop, Bool, true, false, if◌then◌else◌, Option, None, Result, Ok, Err, refl, sym, ◌∙◌, ap, inl, inr, append_assoc, arith}
 use Rattle.std.proofs.lemmas.List.{take-append-drop, length-take, length-take-le, length-drop, drop-drop}
 use Rattle.httparse.specs.declared.spans.HeaderSpan.{HeaderSpan}
 use Rattle.httparse.specs.declared.spans.RequestSpans.{RequestSpans}
-use Rattle.al_http.specs.Blocks.{IsBlock}
-use Rattle.al_http.specs.Requests.{FirstRequest, IsBad, IsCut}
+use Rattle.al_http.specs.declared.framer.Stop.{Stop}
+use Rattle.al_http.specs.declared.framer.Stop.TheVariants.{Cut}
+use Rattle.al_http.specs.Blocks.{IsBlock, HoldsNoBlock, are_line_ends}
+use Rattle.al_http.specs.Requests.{FirstRequest, HasEnded, IsBad, IsCut, head_limit}
+use Rattle.al_http.specs.Moves.{IsAll}
+use Rattle.al_http.specs.Desks.{Finds}
 use Rattle.al_http.specs.Shown.{message_at}
 use Rattle.al_http.specs.Heads.{ReadsHead, RefusesBlock}
-use Rattle.al_http.proofs.StreamLemmas.{front_kept}
+use Rattle.al_http.proofs.StreamLemmas.{front_kept, all_has}
 
 -- bytes are a front of n, then m more, and the rest
 three_parts : (xs rest : List ℕ) (n m : ℕ) → xs ++ rest ≡ take n xs ++ (take m (drop n xs) ++ (drop (n + m) xs ++ rest))
@@ -59,3 +63,12 @@ cut_body held more len size spans head reads within kept short =
       frames = reads.frames;
       lacks = omega (arith, length-drop len more);
     })
+
+-- a stream of which all is held, without a block, ends as these bytes do
+pub ends_so : (held : List ℕ) (stream : Option (List ℕ)) (result : Result (Option ℕ) Stop) → result ≡ (if are_line_ends false held then Ok None else Err Cut)
+    → length held < head_limit → HoldsNoBlock held → IsAll held stream → Finds held stream result
+ends_so held stream result answer short no_block all = rw answer (by_lines (are_line_ends false held) refl)
+  where
+    by_lines : (blank : Bool) → are_line_ends false held ≡ blank → Finds held stream (if blank then Ok None else Err Cut)
+    by_lines true is = all_has HasEnded held stream all (record { short = short; empty_lines = is })
+    by_lines false is = all_has IsCut held stream all (inl (record { short = short; no_block = no_block; some_text = λ yes. cc (is, yes) }))

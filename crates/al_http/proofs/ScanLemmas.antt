@@ -163,3 +163,29 @@ after_none = record { no_block = record { none = no_front }; shows = refl }
 -- a byte that is neither LF nor CR
 pub line_byte : (b : ℕ) → b ≢ line_feed → b ≢ carriage_return → is_line_byte b ≡ true
 line_byte b feed return = grind (arith, nat_tests)
+
+-- what comes of one more LF
+pub feed_on_nothing : (seen : Seen) (xs : List ℕ) → seen ≡ Nothing → IsAfter seen xs → IsAfter Nothing (xs ++ line_feed ∷ [])
+feed_on_nothing seen xs e before = after_nothing xs line_feed refl (rw e at before)
+
+pub feed_on_text : (seen : Seen) (xs : List ℕ) → seen ≡ Text → IsAfter seen xs → IsAfter LineFeed (xs ++ line_feed ∷ [])
+feed_on_text seen xs e before = after_line_feed xs (rw e at before)
+
+pub feed_on_end : (seen : Seen) (xs : List ℕ) → (seen ≡ LineFeed) ⊎ (seen ≡ Return) → IsAfter seen xs → IsBlock (xs ++ line_feed ∷ [])
+feed_on_end seen xs (inl e) before = ends_line_feed xs (rw e at before)
+feed_on_end seen xs (inr e) before = ends_return xs (rw e at before)
+
+-- what comes of one more CR
+pub return_on_nothing : (seen : Seen) (xs : List ℕ) → seen ≡ Nothing → IsAfter seen xs → IsAfter Nothing (xs ++ carriage_return ∷ [])
+return_on_nothing seen xs e before = after_nothing xs carriage_return refl (rw e at before)
+
+pub return_on_line_feed : (seen : Seen) (xs : List ℕ) → seen ≡ LineFeed → IsAfter seen xs → IsAfter Return (xs ++ carriage_return ∷ [])
+return_on_line_feed seen xs e before = after_return xs (rw e at before)
+
+pub return_on_text : (seen : Seen) (xs : List ℕ) → (seen ≡ Text) ⊎ (seen ≡ Return) → IsAfter seen xs → IsAfter Text (xs ++ carriage_return ∷ [])
+return_on_text seen xs (inl e) before = after_text_return xs (rw e at before)
+return_on_text seen xs (inr e) before = after_two_returns xs (rw e at before)
+
+pub ruleset on_line_feed = (feed_on_nothing, feed_on_text, feed_on_end)
+
+pub ruleset on_return = (return_on_nothing, return_on_line_feed, return_on_text)

@@ -50,6 +50,10 @@ take_parts n k xs =
 pub drop_part : (xs : List ℕ) (start end n : ℕ) → slice_range xs (start + n) end ≡ drop n (slice_range xs start end)
 drop_part xs start end n = between_is xs (start + n) end ∙ sym (drop-drop n start (take end xs)) ∙ ap (drop n) (sym (between_is xs start end))
 
+-- the same, of a part that begins at another name of that place
+pub drop_to : (xs : List ℕ) (start new end n : ℕ) → new ≡ start + n → slice_range xs new end ≡ drop n (slice_range xs start end)
+drop_to xs start new end n at = rw at (drop_part xs start end n)
+
 -- what is held after a read behind the bytes that were
 pub grown : (bytes new : List ℕ) (filled count : ℕ) → take filled new ≡ take filled bytes
     → slice_range new 0 (filled + count) ≡ slice_range bytes 0 filled ++ slice_range new filled (filled + count)

@@ -1,6 +1,8 @@
 //! The buffer of a framer.
 
-ghost use Rattle.std.specs.Prelude.{◌≡◌, ◌+◌, ◌-◌, ◌<◌, ◌≤◌, [], length, take, drop, slice_range, vec_len, IfOk, OnErr, IfSome, IfNone, Ok, true, false};
+ghost use Rattle.std.specs.Prelude.{◌≡◌, ◌+◌, ◌-◌, ◌<◌, ◌≤◌, [], length, take, drop, slice_range, vec_len, min, if◌then◌else◌, IfOk, OnErr, IfSome, IfNone, Ok, Err, None, true, false};
+ghost use Rattle.al_http.specs.Blocks.{are_line_ends};
+ghost use Rattle.al_http.specs.Requests.{head_limit};
 ghost use Rattle.std.specs.Io.KnownBytes.{Keeps, Consumes};
 ghost use Rattle.al_base.specs.Outside.{Rose, TellsEnd};
 
@@ -138,6 +140,13 @@ impl Desk {
         Ok(true)
     }
 
+    /// Up to where the bytes held may be a head.
+    fn look_end(&self) -> usize
+        ensures { result ≡ min (length (held_bytes self.now)) head_limit }
+    {
+        self.len().min(MAX_HEAD)
+    }
+
     /// Reads until a block is held, and answers its length.
     fn find_block<S: Source>(&mut self, source: &mut S) -> Result<Option<usize>, Stop>
         ensures stream { Keeps (stream_of (held_bytes self.old) (S.left source.old)) (stream_of (held_bytes self.new) (S.left source.new)) }
@@ -148,7 +157,7 @@ impl Desk {
         let mut seen = Seen::Nothing;
         let mut done = 0;
         'reading: loop {
-            let end = self.len().min(MAX_HEAD);
+            let end = self.look_end();
             match look_on(seen, &self.held()[done..end]) {
                 Look::Ends(count) => return Ok(Some(done + count)),
                 Look::Goes(next) => seen = next,
@@ -159,8 +168,7 @@ impl Desk {
             }
             match self.read_more(source) {
                 Ok(true) => {}
-                Ok(false) if is_blank(self.held()) => return Ok(None),
-                Ok(false) => return Err(Stop::Cut),
+                Ok(false) => return end_of(self.held()),
                 Err(ReadFault) => return Err(Stop::ReadFault),
             }
         }
@@ -244,6 +252,17 @@ impl Desk {
             place.head,
             &self.bytes[place.body..place.end],
         )
+    }
+}
+
+/// How a stream ends that is these bytes and holds no block.
+fn end_of(held: &[u8]) -> Result<Option<usize>, Stop>
+    ensures { result ≡ (if are_line_ends false held.now then Ok None else Err Stop.Cut) }
+{
+    if is_blank(held) {
+        Ok(None)
+    } else {
+        Err(Stop::Cut)
     }
 }
 

@@ -67,6 +67,7 @@ fn read_number(value: &[u8]) -> Option<usize>
 }
 
 /// The length of the body that the fields frame.
+#[tactic(auto, using(crate::proofs::HeadLemmas::lone_value))]
 fn body_length(block: &[u8], headers: &[HeaderSpan]) -> Option<usize>
     requires { All (IsHeaderWithin (length block.now)) headers.now }
     ensures size { IfSome result (Frames (map (header_bytes block.now) headers.now)) }

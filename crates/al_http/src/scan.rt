@@ -1,7 +1,7 @@
 //! Looking for the end of a block, for its lines, and for empty lines, one byte after the other.
 
 ghost use Rattle.std.specs.Prelude.{◌≡◌, ◌+◌, ◌≤◌, ℕ, List, [], ◌∷◌, ◌++◌, length, take, false, IsTrue, ◌↔◌, MatchOption, ◌==◌, position, count_by};
-ghost use Rattle.al_http.specs.Blocks.{line_feed, is_line_byte, IsBlock, line_count, are_line_ends, AreEmptyLines};
+ghost use Rattle.al_http.specs.Blocks.{line_feed, carriage_return, is_line_byte, IsBlock, line_count, are_line_ends, AreEmptyLines};
 ghost use Rattle.al_http.specs.Scans.{IsAfter, Looks};
 
 const LINE_FEED: u8 = b'\n';
@@ -22,21 +22,37 @@ pub(crate) enum Seen {
 }
 
 impl Seen {
+    /// What was seen with one more LF, or nothing where the block ends with it.
+    #[tactic(auto, using(crate::proofs::ScanLemmas::on_line_feed))]
+    fn after_line_feed(self) -> Option<Seen>
+        ensures { (front : List ℕ) → IsAfter self front → MatchOption result (IsBlock (front ++ line_feed ∷ [])) (λ seen. IsAfter seen (front ++ line_feed ∷ [])) }
+    {
+        match self {
+            Seen::Nothing => Some(Seen::Nothing),
+            Seen::Text => Some(Seen::LineFeed),
+            Seen::LineFeed | Seen::Return => None,
+        }
+    }
+
+    /// What was seen with one more CR.
+    #[tactic(auto, using(crate::proofs::ScanLemmas::on_return))]
+    fn after_return(self) -> Seen
+        ensures { (front : List ℕ) → IsAfter self front → IsAfter result (front ++ carriage_return ∷ []) }
+    {
+        match self {
+            Seen::Nothing => Seen::Nothing,
+            Seen::LineFeed => Seen::Return,
+            Seen::Text | Seen::Return => Seen::Text,
+        }
+    }
+
     /// What was seen with one more byte, or nothing where the block ends with it.
     fn after(self, byte: u8) -> Option<Seen>
         ensures { (front : List ℕ) → IsAfter self front → MatchOption result (IsBlock (front ++ byte ∷ [])) (λ seen. IsAfter seen (front ++ byte ∷ [])) }
     {
         match byte {
-            LINE_FEED => match self {
-                Seen::Nothing => Some(Seen::Nothing),
-                Seen::Text => Some(Seen::LineFeed),
-                Seen::LineFeed | Seen::Return => None,
-            },
-            CARRIAGE_RETURN => match self {
-                Seen::Nothing => Some(Seen::Nothing),
-                Seen::LineFeed => Some(Seen::Return),
-                Seen::Text | Seen::Return => Some(Seen::Text),
-            },
+            LINE_FEED => self.after_line_feed(),
+            CARRIAGE_RETURN => Some(self.after_return()),
             _ => Some(Seen::Text),
         }
     }

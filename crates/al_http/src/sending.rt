@@ -150,6 +150,7 @@ mod tests {
     use super::*;
     use al_base::{List, MemSink};
     use std::alloc::{AllocError, Global};
+    use std::process::Abort;
     use std::test::Fail;
 
     const COUNT: &[u8] = b"{\"ietf-alarms:number-of-alarms\":0}";
@@ -182,83 +183,128 @@ mod tests {
         })
     }
 
-    /// What is written of a response in one piece.
-    fn written(alloc: Global, response: &Response, last: bool) -> Result<Vec<u8>, Fail>
+    /// What a response leaves in a sink whose write of that number fails, and the answer.
+    fn written(
+        alloc: Global,
+        response: &Response,
+        last: bool,
+        fails: u64,
+    ) -> Result<(Vec<u8>, Result<(), WriteFault>), Fail>
         requires { HasText response.now }
     {
-        let mut sink = MemSink::new(alloc, 1000, &[2])?;
-        respond(&mut sink, response, last)?;
-        Ok(Vec::from_slice(alloc, sink.bytes())?)
+        let mut sink = MemSink::new(alloc, 4000, &[fails])?;
+        let answer = respond(&mut sink, response, last);
+        Ok((Vec::from_slice(alloc, sink.bytes())?, answer))
+    }
+
+    /// Sees that a response is written as this text, in one piece.
+    fn expect(
+        rt: &impl Abort,
+        alloc: Global,
+        response: &Response,
+        last: bool,
+        text: &[u8],
+    ) -> Result<(), Fail>
+        requires { HasText response.now }
+    {
+        let (bytes, answer) = written(alloc, response, last, 2)?;
+        assert_eq!(rt; answer, Ok(()));
+        assert_eq!(rt; bytes.as_slice(), text);
+        Ok(())
     }
 
     #[test]
-    fn writes_answers(rt: HostRuntime) -> Result<(), Fail> {
+    fn writes_trees(rt: HostRuntime) -> Result<(), Fail> {
         let alloc = rt.alloc();
-        assert_eq!(rt;
-            written(alloc, &answer(alloc, COUNT, false)?, false)?.as_slice(),
-            b"HTTP/1.1 200 OK\r\nAlarm-Place: 0\r\nContent-Length: 34\r\nContent-Type: application/yang-data+json\r\n\r\n{\"ietf-alarms:number-of-alarms\":0}".as_slice()
-        );
-        assert_eq!(rt;
-            written(alloc, &answer(alloc, COUNT, true)?, true)?.as_slice(),
-            b"HTTP/1.1 200 OK\r\nAlarm-Place: 0\r\nConnection: close\r\nContent-Length: 34\r\nContent-Type: application/yang-data+json\r\n\r\n".as_slice()
-        );
-        assert_eq!(rt;
-            written(alloc, &answer(alloc, b"", false)?, false)?.as_slice(),
-            b"HTTP/1.1 200 OK\r\nAlarm-Place: 0\r\nContent-Length: 0\r\n\r\n".as_slice()
-        );
-        assert_eq!(rt;
-            written(alloc, &Response::bodiless(204, Some(3)), false)?.as_slice(),
-            b"HTTP/1.1 204 No Content\r\nAlarm-Place: 3\r\n\r\n".as_slice()
-        );
-        assert_eq!(rt;
-            written(alloc, &creation(alloc, b"a-b/\xc3\xa9 ~%")?, false)?.as_slice(),
-            b"HTTP/1.1 201 Created\r\nAlarm-Place: 12\r\nContent-Length: 0\r\nLocation: /restconf/data/ietf-alarms:alarms/control/alarm-shelving/shelf=a-b%2F%C3%A9%20~%25\r\n\r\n".as_slice()
-        );
+        expect(
+            &rt,
+            alloc,
+            &answer(alloc, COUNT, false)?,
+            false,
+            b"HTTP/1.1 200 OK\r\nAlarm-Place: 0\r\nContent-Length: 34\r\nContent-Type: application/yang-data+json\r\n\r\n{\"ietf-alarms:number-of-alarms\":0}",
+        )?;
+        expect(
+            &rt,
+            alloc,
+            &answer(alloc, COUNT, true)?,
+            true,
+            b"HTTP/1.1 200 OK\r\nAlarm-Place: 0\r\nConnection: close\r\nContent-Length: 34\r\nContent-Type: application/yang-data+json\r\n\r\n",
+        )
+    }
+
+    #[test]
+    fn writes_answers_without_a_body(rt: HostRuntime) -> Result<(), Fail> {
+        let alloc = rt.alloc();
+        expect(
+            &rt,
+            alloc,
+            &Response::bodiless(204, Some(3)),
+            false,
+            b"HTTP/1.1 204 No Content\r\nAlarm-Place: 3\r\n\r\n",
+        )?;
+        expect(
+            &rt,
+            alloc,
+            &creation(alloc, b"a-b/\xc3\xa9 ~%")?,
+            false,
+            b"HTTP/1.1 201 Created\r\nAlarm-Place: 12\r\nContent-Length: 0\r\nLocation: /restconf/data/ietf-alarms:alarms/control/alarm-shelving/shelf=a-b%2F%C3%A9%20~%25\r\n\r\n",
+        )?;
+        expect(
+            &rt,
+            alloc,
+            &Response::out_of_memory(u64::MAX),
+            true,
+            b"HTTP/1.1 503 Service Unavailable\r\nAlarm-Place: 18446744073709551615\r\nConnection: close\r\nContent-Length: 0\r\n\r\n",
+        )
+    }
+
+    #[test]
+    fn writes_the_root(rt: HostRuntime) -> Result<(), Fail> {
         let mut root = Response::bodiless(200, Some(5));
         root.content = Content::HostMeta;
-        assert_eq!(rt;
-            written(alloc, &root, false)?.as_slice(),
-            b"HTTP/1.1 200 OK\r\nAlarm-Place: 5\r\nContent-Length: 100\r\nContent-Type: application/xrd+xml\r\n\r\n<XRD xmlns='http://docs.oasis-open.org/ns/xri/xrd-1.0'><Link rel='restconf' href='/restconf'/></XRD>".as_slice()
-        );
-        Ok(())
+        expect(
+            &rt,
+            rt.alloc(),
+            &root,
+            false,
+            b"HTTP/1.1 200 OK\r\nAlarm-Place: 5\r\nContent-Length: 100\r\nContent-Type: application/xrd+xml\r\n\r\n<XRD xmlns='http://docs.oasis-open.org/ns/xri/xrd-1.0'><Link rel='restconf' href='/restconf'/></XRD>",
+        )
     }
 
     #[test]
     fn writes_refusals(rt: HostRuntime) -> Result<(), Fail> {
         let alloc = rt.alloc();
-        assert_eq!(rt;
-            written(alloc, &Response::of_row(5, Some(0)), false)?.as_slice(),
-            b"HTTP/1.1 404 Not Found\r\nAlarm-Place: 0\r\nContent-Length: 121\r\nContent-Type: application/yang-data+json\r\n\r\n{\"ietf-restconf:errors\":{\"error\":[{\"error-message\":\"no such path\",\"error-tag\":\"invalid-value\",\"error-type\":\"protocol\"}]}}".as_slice()
-        );
-        assert_eq!(rt;
-            written(alloc, &Response::of_framing(), true)?.as_slice(),
-            b"HTTP/1.1 400 Bad Request\r\nConnection: close\r\nContent-Length: 122\r\nContent-Type: application/yang-data+json\r\n\r\n{\"ietf-restconf:errors\":{\"error\":[{\"error-message\":\"bad head\",\"error-tag\":\"malformed-message\",\"error-type\":\"transport\"}]}}".as_slice()
-        );
-        assert_eq!(rt;
-            written(alloc, &Response::out_of_memory(u64::MAX), true)?.as_slice(),
-            b"HTTP/1.1 503 Service Unavailable\r\nAlarm-Place: 18446744073709551615\r\nConnection: close\r\nContent-Length: 0\r\n\r\n".as_slice()
-        );
+        expect(
+            &rt,
+            alloc,
+            &Response::of_framing(),
+            true,
+            b"HTTP/1.1 400 Bad Request\r\nConnection: close\r\nContent-Length: 122\r\nContent-Type: application/yang-data+json\r\n\r\n{\"ietf-restconf:errors\":{\"error\":[{\"error-message\":\"bad head\",\"error-tag\":\"malformed-message\",\"error-type\":\"transport\"}]}}",
+        )?;
         let mut refusal = Response::of_row(9, Some(7));
         refusal.allow = 6;
-        assert_eq!(rt;
-            written(alloc, &refusal, false)?.as_slice(),
-            b"HTTP/1.1 405 Method Not Allowed\r\nAlarm-Place: 7\r\nAllow: GET, HEAD\r\nContent-Length: 137\r\nContent-Type: application/yang-data+json\r\n\r\n{\"ietf-restconf:errors\":{\"error\":[{\"error-message\":\"method not allowed\",\"error-tag\":\"operation-not-supported\",\"error-type\":\"protocol\"}]}}".as_slice()
-        );
-        Ok(())
+        expect(
+            &rt,
+            alloc,
+            &refusal,
+            false,
+            b"HTTP/1.1 405 Method Not Allowed\r\nAlarm-Place: 7\r\nAllow: GET, HEAD\r\nContent-Length: 137\r\nContent-Type: application/yang-data+json\r\n\r\n{\"ietf-restconf:errors\":{\"error\":[{\"error-message\":\"method not allowed\",\"error-tag\":\"operation-not-supported\",\"error-type\":\"protocol\"}]}}",
+        )
     }
 
     /// A long body goes after the head, and a fault leaves what was written before it.
     #[test]
     fn stops_at_a_fault(rt: HostRuntime) -> Result<(), Fail> {
-        let response = answer(rt.alloc(), &[b'x'; 2000], false)?;
+        let body = vec![in rt.alloc(); b'x'; 2000]?;
+        let response = answer(rt.alloc(), &body, false)?;
         for (fails, expected, len) in [
             (3, Ok(()), 2099),
             (2, Err(WriteFault), 99),
             (1, Err(WriteFault), 0),
         ] {
-            let mut sink = MemSink::new(rt.alloc(), 4000, &[fails])?;
-            assert_eq!(rt; respond(&mut sink, &response, false), expected);
-            assert_eq!(rt; sink.bytes().len(), len);
+            let (bytes, answer) = written(rt.alloc(), &response, false, fails)?;
+            assert_eq!(rt; answer, expected);
+            assert_eq!(rt; bytes.len(), len);
         }
         Ok(())
     }
@@ -266,16 +312,12 @@ mod tests {
     /// The name of a shelf is sent in pieces where it is long.
     #[test]
     fn writes_a_long_name(rt: HostRuntime) -> Result<(), Fail> {
-        let mut sink = MemSink::new(rt.alloc(), 4000, &[])?;
-        assert_eq!(rt;
-            respond(&mut sink, &creation(rt.alloc(), &[b'/'; 1000])?, false),
-            Ok(())
-        );
-        assert_eq!(rt; sink.bytes().len(), 135 + 3000);
-        assert_eq!(rt;
-            sink.bytes()[3121..].iter().eq(b"F%2F%2F%2F\r\n\r\n".iter()),
-            true
-        );
+        let name = vec![in rt.alloc(); b'/'; 1000]?;
+        let response = creation(rt.alloc(), &name)?;
+        let (bytes, answer) = written(rt.alloc(), &response, false, 0)?;
+        assert_eq!(rt; answer, Ok(()));
+        assert_eq!(rt; bytes.len(), 135 + 3000);
+        assert!(rt; bytes.ends_with(b"F%2F%2F%2F\r\n\r\n"));
         Ok(())
     }
 }

@@ -1,9 +1,11 @@
 use Rattle.std.proofs.Common.{◌≡◌, ◌-◌, ◌<◌, ◌≤◌, length, take, drop, min, inl, lit<, arith}
 use Rattle.std.proofs.lemmas.List.{length-append, take-append-le, length-take, length-drop}
+use Rattle.std.proofs.Math.Seq.{take-length}
 use Rattle.al_http.specs.Requests.{IsBad}
 use Rattle.al_http.specs.Desks.{held_bytes}
 use Rattle.al_http.proofs.ScanLemmas.{after_none}
 use Rattle.al_http.proofs.StreamLemmas.{keeps_same, keeps_both, kept_has, stream_all, take_on, take_to, front_kept}
+use Rattle.al_http.proofs.RequestLemmas.{ends_so}
 use Rattle.al_http.proofs.desk.Desk.find_block.Goals as goal
 
 pub reading-init : goal.reading-init
@@ -19,18 +21,18 @@ pub returns-in-Ends-clause-finds : goal.returns-in-Ends-clause-finds
 returns-in-Ends-clause-finds g c =
     let held = held_bytes c.reading.self in
     let looks = rw c.held.ensures at (c.in-Ends.ensures _ c.reading.invariant.seen) in
-    let part : length (take (c.min-end.result - c.reading.done) (drop c.reading.done held)) ≡ min (c.min-end.result - c.reading.done) (length (drop c.reading.done held)) = length-take _ (drop c.reading.done held) in
+    let part : length (take (c.look_end-end.result - c.reading.done) (drop c.reading.done held)) ≡ min (c.look_end-end.result - c.reading.done) (length (drop c.reading.done held)) = length-take _ (drop c.reading.done held) in
     let size = length-drop c.reading.done held in (
-      omega (arith, looks.0, c.len.ensures, c.min-end.ensures),
-      omega (arith, looks.0, c.len.ensures, c.min-end.ensures),
-      rw (take_on held c.reading.done c.min-end.result c.in-Ends.count looks.0) at looks.1,
+      omega (arith, looks.0, c.look_end-end.ensures),
+      omega (arith, looks.0, c.look_end-end.ensures),
+      rw (take_on held c.reading.done c.look_end-end.result c.in-Ends.count looks.0) at looks.1,
     )
 
 pub returns-then-done-eq-MAX_HEAD-clause-finds : goal.returns-then-done-eq-MAX_HEAD-clause-finds
 returns-then-done-eq-MAX_HEAD-clause-finds g c =
     let held = held_bytes c.reading.self in
-    let from : c.reading.done ≤ c.min-end.result = omega arith in
-    let seen = rw (c.held.ensures, take_to held c.reading.done c.min-end.result from, c.if-done-eq-MAX_HEAD.true) at (c.in-Goes.ensures _ c.reading.invariant.seen) in
+    let from : c.reading.done ≤ c.look_end-end.result = omega arith in
+    let seen = rw (c.held.ensures, take_to held c.reading.done c.look_end-end.result from, c.if-done-eq-MAX_HEAD.true) at (c.in-Goes.ensures _ c.reading.invariant.seen) in
     let long : 16384 ≤ length held = omega arith in
     kept_has IsBad _ _ c.reading.invariant.stream (stream_all IsBad held _ (λ more. inl (record {
       long = omega (arith, length-append held more);
@@ -40,14 +42,26 @@ returns-then-done-eq-MAX_HEAD-clause-finds g c =
 pub reading-preserved : goal.reading-preserved
 reading-preserved g c =
     let held = held_bytes c.reading.self in
-    let from : c.reading.done ≤ c.min-end.result = omega arith in
-    let within : c.min-end.result ≤ length held = omega arith in
-    let seen = rw (c.held.ensures, take_to held c.reading.done c.min-end.result from) at (c.in-Goes.ensures _ c.reading.invariant.seen) in
+    let from : c.reading.done ≤ c.look_end-end.result = omega arith in
+    let within : c.look_end-end.result ≤ length held = omega arith in
+    let seen = rw (c.held.ensures, take_to held c.reading.done c.look_end-end.result from) at (c.in-Goes.ensures _ c.reading.invariant.seen) in
     let more : length held < length (held_bytes c.read_more.new.self) = c.read_more.ensures.more (cc) in
     record {
       stream = keeps_both _ _ _ c.reading.invariant.stream c.read_more.ensures.stream;
       later = omega (arith, c.reading.invariant.later, c.read_more.ensures.later);
-      seen = rw (front_kept held (held_bytes c.read_more.new.self) c.min-end.result within c.read_more.ensures.kept) seen;
+      seen = rw (front_kept held (held_bytes c.read_more.new.self) c.look_end-end.result within c.read_more.ensures.kept) seen;
       held = omega arith;
       short = omega arith;
     }
+
+pub returns-in-Ok-false-clause-finds : goal.returns-in-Ok-false-clause-finds
+returns-in-Ok-false-clause-finds g c =
+    let held = held_bytes c.reading.self in
+    let ended = c.read_more.ensures.end (cc) in
+    let from : c.reading.done ≤ c.look_end-end.result = omega arith in
+    let whole : c.look_end-end.result ≡ length held = omega arith in
+    let short : length held < 16384 = omega arith in
+    let seen = rw (c.held.ensures, take_to held c.reading.done c.look_end-end.result from, whole, take-length held) at (c.in-Goes.ensures _ c.reading.invariant.seen) in
+    rw ended.0
+    (ends_so held _ _ (rw (c.held-in-Ok-false.ensures, ended.0) at c.end_of.ensures) short seen.no_block
+    (kept_has (λ bytes. bytes ≡ held) _ _ c.reading.invariant.stream ended.1))

@@ -1,13 +1,12 @@
-use Rattle.std.proofs.Common.{◌≡◌, ◌+◌, ◌≤◌, length, refl, arith}
+use Rattle.std.proofs.Common.{◌+◌, ◌≤◌, length, refl, arith}
 use Rattle.al_http.specs.Desks.{held_bytes}
-use Rattle.al_http.proofs.StreamLemmas.{drop_part, front_part, mid_part}
+use Rattle.al_http.proofs.StreamLemmas.{drop_to, front_part, mid_part}
 use Rattle.al_http.proofs.desk.Desk.give.Goals as goal
 
 pub returns-clause-held : goal.returns-clause-held
 returns-clause-held c =
     let desk = c.args.self.now in
-    let end : desk.start + c.args.head.len + c.args.size ≡ desk.start + (c.args.head.len + c.args.size) = omega arith in
-    rw end (drop_part desk.bytes.items desk.start desk.filled (c.args.head.len + c.args.size))
+    drop_to desk.bytes.items desk.start _ desk.filled (c.args.head.len + c.args.size) (omega arith)
 
 pub returns-clause-message : goal.returns-clause-message
 returns-clause-message c =
