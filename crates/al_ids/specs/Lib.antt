@@ -1,4 +1,6 @@
 pub mod Keys
+pub mod MatchForms
+pub mod Matches
 pub mod OidReading
 pub mod Oids
 pub mod PathReading

@@ -1,0 +1,140 @@
+//! Resource matches.
+
+ghost use Rattle.al_ids.specs.Matches.{IsMatch, IsOther, IsSized, IsXPathStop, Matches, is_rooted as is_rooted_of};
+ghost use Rattle.al_pattern.specs.Reading.{first_fault};
+ghost use Rattle.std.specs.Prelude.{◌≡◌, ◌≢◌, ◌⊎◌, ◌↔◌, ◌<◌, ◌≤◌, ℕ, Some, [], IfOk, IsOkUnless, IsTrue, length};
+
+use crate::oid;
+use crate::resource::{Kind, MAX_RESOURCE, Resource};
+use crate::steps;
+use crate::xpath;
+use al_base::{Copied, Text, TextFault};
+use al_pattern::{Pattern, PatternFault};
+use std::alloc::{AllocError, Global};
+use std::error::Error;
+use std::fmt;
+use std::marker::Model;
+
+/// Why bytes are no resource match.
+#[derive(Clone, Copy, Debug, PartialEq, Eq)]
+pub enum MatchFault {
+    /// There are no bytes.
+    Empty,
+    /// There are more than 512 bytes.
+    TooLong,
+    /// The text begins with a slash, and at this byte, counted from 0, it stops being an XPath that is supported; the length
+    /// where it ends too soon.
+    XPathUnsupported(usize),
+    /// The text is neither a path nor an object identifier, and no pattern for this reason.
+    Pattern(PatternFault),
+    /// There was no memory for the match.
+    Memory,
+}
+
+impl fmt::Display for MatchFault {
+    fn fmt<W: fmt::Write>(&self, f: &mut fmt::Formatter<W>) -> fmt::Result {
+        match self {
+            MatchFault::Empty => f.write_str("the resource match is empty"),
+            MatchFault::TooLong => f.write_str("the resource match is longer than 512 bytes"),
+            MatchFault::XPathUnsupported(place) => write!(f, "the path isn't supported at byte {place}"),
+            MatchFault::Pattern(fault) => write!(f, "the resource match is no pattern: {fault:?}"),
+            MatchFault::Memory => f.write_str("out of memory"),
+        }
+    }
+}
+
+impl Error for MatchFault {}
+
+/// The three forms of a match.
+#[derive(Debug, Drop)]
+enum Form {
+    Path(Text),
+    Oid(Text),
+    Pattern(Pattern),
+}
+
+/// What names resources (RFC 8632, type `resource-match`): a path, an object identifier or a pattern of 1 to 512 bytes.
+///
+/// A contract sees its text.
+#[derive(Debug, Drop)]
+pub struct ResourceMatch {
+    form: Form,
+}
+
+impl Model for ResourceMatch {
+    ghost use Rattle.std.specs.Prelude.{List, ℕ};
+
+    ghost Value = { List ℕ };
+
+    ghost use Rattle.al_ids.specs.MatchForms.{text_of, IsKept};
+
+    ghost view = { λ kept. text_of kept.form };
+
+    ghost invariant = { λ kept. IsKept kept.form };
+}
+
+impl ResourceMatch {
+    /// The resource match of this text.
+    ///
+    /// A text that begins with a slash has to be an XPath of steps and predicates, as `/link[from='a']`. Another text in the
+    /// form of an object identifier is one. Every other text is a pattern.
+    pub fn read(alloc: Global, text: &[u8]) -> Result<ResourceMatch, MatchFault>
+        // What is read is a match.
+        ensures ok { IfOk result (λ read. (read ≡ text.now) × IsMatch text.now) }
+        // What is a match is read, unless memory runs out.
+        ensures only { IsMatch text.now → IsOkUnless result MatchFault.Memory }
+        ensures empty { (result ≡ Err MatchFault.Empty) ↔ (text.now ≡ []) }
+        ensures too_long { (result ≡ Err MatchFault.TooLong) ↔ (MAX_RESOURCE < length text.now) }
+        ensures xpath { (place : ℕ) → (result ≡ Err (MatchFault.XPathUnsupported place))
+            ↔ (IsSized text.now × IsTrue (is_rooted_of text.now) × IsXPathStop text.now place) }
+        // The fault of a pattern is its first, and where there is one, it is the answer unless memory runs out.
+        ensures pattern { (fault : PatternFault) → result ≡ Err (MatchFault.Pattern fault)
+            → IsSized text.now × IsOther text.now × (first_fault text.now ≡ Some fault) }
+        ensures no_pattern { (fault : PatternFault) → IsSized text.now → IsOther text.now → first_fault text.now ≡ Some fault
+            → (result ≡ Err (MatchFault.Pattern fault)) ⊎ (result ≡ Err MatchFault.Memory) }
+    {
+        if text.is_empty() {
+            return Err(MatchFault::Empty);
+        }
+        if text.len() > MAX_RESOURCE {
+            return Err(MatchFault::TooLong);
+        }
+        let form = form_of(alloc, text)?;
+        Ok(ResourceMatch { form })
+    }
+
+    /// Whether the match takes the resource. No memory is taken.
+    pub fn matches(&self, resource: &Resource) -> bool
+        ensures { IsTrue result ↔ Matches self.now resource.now }
+    {
+        let text = resource.text().bytes();
+        match &self.form {
+            Form::Path(path) => resource.kind() == Kind::Path && steps::takes_path(path.bytes(), text),
+            Form::Oid(front) => resource.kind() == Kind::Oid && oid::is_front(front.bytes(), text),
+            Form::Pattern(pattern) => resource.kind() == Kind::Plain && pattern.matches(text),
+        }
+    }
+
+    /// The text that was read.
+    pub fn source(&self) -> &[u8]
+        ensures text { result.now ≡ self.now }
+        ensures is_match { IsMatch result.now }
+    {
+        match &self.form {
+            Form::Path(text) => text.bytes(),
+            Form::Oid(text) => text.bytes(),
+            Form::Pattern(pattern) => pattern.source(),
+        }
+    }
+}
+
+impl Copied for ResourceMatch {
+    fn copy(&self, alloc: Global) -> Result<ResourceMatch, AllocError> {
+        let form = match &self.form {
+            Form::Path(text) => Form::Path(text.copy(alloc)?),
+            Form::Oid(text) => Form::Oid(text.copy(alloc)?),
+            Form::Pattern(pattern) => Form::Pattern(pattern.copy(alloc)?),
+        };
+        Ok(ResourceMatch { form })
+    }
+}
