@@ -6,3 +6,5 @@ pub mod Oids
 pub mod PathReading
 pub mod Paths
 pub mod Resources
+pub mod StepReading
+pub mod TextStops

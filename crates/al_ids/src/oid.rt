@@ -1,3 +1,4 @@
+ghost use Rattle.al_ids.specs.Matches.{TakesOid};
 ghost use Rattle.al_ids.specs.Oids.{IsOid};
 ghost use Rattle.al_ids.specs.OidReading.{leads_to_end, may_end as may_end_of, next_place, when};
 ghost use Rattle.std.specs.Prelude.{◌≡◌, ◌↔◌, IsTrue};
@@ -88,4 +89,16 @@ pub fn is_oid(text: &[u8]) -> bool
     ensures { IsTrue result ↔ IsOid text.now }
 {
     Place::Start.reaches_end(text)
+}
+
+/// Whether the arcs of the one object identifier are a front of those of the other.
+pub fn is_front(front: &[u8], whole: &[u8]) -> bool
+    requires front { IsOid front.now }
+    requires whole { IsOid whole.now }
+    ensures { IsTrue result ↔ TakesOid front.now whole.now }
+{
+    match whole.strip_prefix(front) {
+        Some(rest) => rest.is_empty() || rest[0] == b'.',
+        None => false,
+    }
 }

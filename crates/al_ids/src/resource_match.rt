@@ -1,13 +1,15 @@
 //! Resource matches.
 
+ghost use Rattle.al_ids.specs.MatchForms.{IsFormFault, IsOfForm, text_of};
 ghost use Rattle.al_ids.specs.Matches.{IsMatch, IsOther, IsSized, IsXPathStop, Matches, is_rooted as is_rooted_of};
+ghost use Rattle.al_ids.specs.Oids.{IsOid};
 ghost use Rattle.al_pattern.specs.Reading.{first_fault};
-ghost use Rattle.std.specs.Prelude.{◌≡◌, ◌≢◌, ◌⊎◌, ◌↔◌, ◌<◌, ◌≤◌, ℕ, Some, [], IfOk, IsOkUnless, IsTrue, length};
+ghost use Rattle.std.specs.Prelude.{◌≡◌, ◌≢◌, ◌⊎◌, ◌↔◌, ◌<◌, ◌≤◌, ℕ, Some, [], IfOk, IsOkUnless, IsTrue, MatchResult, length};
 
 use crate::oid;
 use crate::resource::{Kind, MAX_RESOURCE, Resource};
 use crate::steps;
-use crate::xpath;
+use crate::xpath::xpath_stop;
 use al_base::{Copied, Text, TextFault};
 use al_pattern::{Pattern, PatternFault};
 use std::alloc::{AllocError, Global};
@@ -136,5 +138,61 @@ impl Copied for ResourceMatch {
             Form::Pattern(pattern) => Form::Pattern(pattern.copy(alloc)?),
         };
         Ok(ResourceMatch { form })
+    }
+}
+
+/// The form of a text of 1 to 512 bytes.
+fn form_of(alloc: Global, text: &[u8]) -> Result<Form, MatchFault>
+    ensures { MatchResult result (λ form. (text_of form ≡ text.now) × IsOfForm form) (IsFormFault text.now) }
+{
+    if is_rooted(text) {
+        path_form(alloc, text)
+    } else if oid::is_oid(text) {
+        oid_form(alloc, text)
+    } else {
+        pattern_form(alloc, text)
+    }
+}
+
+/// Whether the text begins with a slash.
+fn is_rooted(text: &[u8]) -> bool
+    ensures { result ≡ is_rooted_of text.now }
+{
+    matches!(text.first(), Some(b'/'))
+}
+
+fn path_form(alloc: Global, text: &[u8]) -> Result<Form, MatchFault>
+    requires { IsTrue (is_rooted_of text.now) }
+    ensures { MatchResult result (λ form. (text_of form ≡ text.now) × IsOfForm form) (IsFormFault text.now) }
+{
+    match xpath_stop(text) {
+        Some(place) => Err(MatchFault::XPathUnsupported(place)),
+        None => match Text::read(alloc, text) {
+            Ok(text) => Ok(Form::Path(text)),
+            Err(TextFault::Memory) => Err(MatchFault::Memory),
+            Err(TextFault::NotUtf8) => unreachable!(),
+        },
+    }
+}
+
+fn oid_form(alloc: Global, text: &[u8]) -> Result<Form, MatchFault>
+    requires { IsOid text.now }
+    ensures { MatchResult result (λ form. (text_of form ≡ text.now) × IsOfForm form) (IsFormFault text.now) }
+{
+    match Text::read(alloc, text) {
+        Ok(text) => Ok(Form::Oid(text)),
+        Err(TextFault::Memory) => Err(MatchFault::Memory),
+        Err(TextFault::NotUtf8) => unreachable!(),
+    }
+}
+
+fn pattern_form(alloc: Global, text: &[u8]) -> Result<Form, MatchFault>
+    requires { IsOther text.now }
+    ensures { MatchResult result (λ form. (text_of form ≡ text.now) × IsOfForm form) (IsFormFault text.now) }
+{
+    match Pattern::read(alloc, text) {
+        Ok(pattern) => Ok(Form::Pattern(pattern)),
+        Err(PatternFault::Memory) => Err(MatchFault::Memory),
+        Err(fault) => Err(MatchFault::Pattern(fault)),
     }
 }

@@ -1,0 +1,24 @@
+//! Where bytes stop being UTF-8.
+
+ghost use Rattle.al_ids.specs.TextStops.{IsTextStop};
+ghost use Rattle.std.specs.Prelude.{◌≡◌, IsUtf8, MatchOption};
+
+use std::str;
+
+/// The first byte that no text in UTF-8 has there, or the length where the bytes end inside a character; None where the
+/// bytes are a text.
+pub fn text_stop(bytes: &[u8]) -> Option<usize>
+    ensures { MatchOption result (IsUtf8 bytes.now) (IsTextStop bytes.now) }
+{
+    let Err(error) = str::from_utf8(bytes) else {
+        return None;
+    };
+    let valid = error.valid_up_to();
+    if !matches!(bytes[valid], 0xC2..=0xF4) {
+        return Some(valid);
+    }
+    match error.error_len() {
+        Some(len) => Some(valid + len),
+        None => Some(bytes.len()),
+    }
+}
