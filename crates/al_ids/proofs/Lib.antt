@@ -1,3 +1,4 @@
+pub mod Fronts
 pub mod Keyed
 pub mod OidsRead
 pub mod PathsRead

@@ -4,7 +4,7 @@ ghost use Rattle.al_base.specs.Identifiers.{continues_identifier as continues_id
 ghost use Rattle.al_ids.specs.Matches.{HasPredicate, IsXPath, TakesPath, TakesStep, with_modules};
 ghost use Rattle.al_ids.specs.Paths.{IsPath, IsStep, Predicate, Step, path_text};
 ghost use Rattle.al_ids.specs.StepReading.{IsTail, behind_byte, behind_front, behind_names, front_of, is_inside, name_of, owner_of, parts_of};
-ghost use Rattle.std.specs.List.{AllByRecursion, AllZip};
+ghost use Rattle.std.specs.List.{AllByRecursion, AllZip, take_while};
 ghost use Rattle.std.specs.Option.{option_copied, option_map, option_or};
 ghost use Rattle.std.specs.Prelude.{◌≡◌, ◌↔◌, ◌<◌, ◌≤◌, ℕ, List, None, Some, IfSome, IsTrue, length};
 
@@ -199,8 +199,14 @@ fn cut_word(text: &[u8]) -> (&[u8], &[u8])
     ensures behind { result.1.now ≡ behind_front continues_identifier_of text.now }
     ensures within { length result.1.now ≤ length text.now }
 {
-    let len = text.iter().take_while(|byte| continues_identifier(**byte)).count();
-    text.split_at(len)
+    text.split_at(word_len(text))
+}
+
+fn word_len(text: &[u8]) -> usize
+    ensures len { result ≡ length (take_while continues_identifier_of text.now) }
+    ensures within { result ≤ length text.now }
+{
+    text.iter().take_while(|byte| continues_identifier(**byte)).count()
 }
 
 /// The bytes before the quote, and the text from it on.
@@ -209,8 +215,14 @@ fn cut_value(text: &[u8], quote: u8) -> (&[u8], &[u8])
     ensures behind { result.1.now ≡ behind_front (is_inside quote) text.now }
     ensures within { length result.1.now ≤ length text.now }
 {
-    let len = text.iter().take_while(|byte| **byte != quote).count();
-    text.split_at(len)
+    text.split_at(value_len(text, quote))
+}
+
+fn value_len(text: &[u8], quote: u8) -> usize
+    ensures len { result ≡ length (take_while (is_inside quote) text.now) }
+    ensures within { result ≤ length text.now }
+{
+    text.iter().take_while(|byte| **byte != quote).count()
 }
 
 /// What follows this byte, where the text begins with it.
