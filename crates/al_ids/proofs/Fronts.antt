@@ -59,3 +59,10 @@ behind_read p [] [] all stop = refl
 behind_read p [] (y ∷ rest) all stop = rw (off (p y) stop) refl
 behind_read p (x ∷ xs) rest all stop =
     rw (and_left (p x) (list_all p xs) all) (behind_read p xs rest (and_right (p x) (list_all p xs) all) stop)
+
+-- Two lists that are cut where their fronts end are cut alike.
+pub same_front : (p : ℕ → Bool) (xs ys r s : List ℕ) → list_all p xs ≡ true → list_all p ys ≡ true → stops p r ≡ true → stops p s ≡ true → xs ++ r ≡ ys ++ s → xs ≡ ys
+same_front p xs ys r s all_xs all_ys r_stops s_stops e = sym (front_read p xs r all_xs r_stops) ∙ ap (front_of p) e ∙ front_read p ys s all_ys s_stops
+
+pub same_behind : (p : ℕ → Bool) (xs ys r s : List ℕ) → list_all p xs ≡ true → list_all p ys ≡ true → stops p r ≡ true → stops p s ≡ true → xs ++ r ≡ ys ++ s → r ≡ s
+same_behind p xs ys r s all_xs all_ys r_stops s_stops e = sym (behind_read p xs r all_xs r_stops) ∙ ap (behind_front p) e ∙ behind_read p ys s all_ys s_stops

@@ -1,4 +1,6 @@
 pub mod Fronts
 pub mod Keyed
+pub mod OidFronts
 pub mod OidsRead
+pub mod PathCuts
 pub mod PathsRead
