@@ -4,3 +4,4 @@ pub mod OidFronts
 pub mod OidsRead
 pub mod PathCuts
 pub mod PathsRead
+pub mod StepMatches

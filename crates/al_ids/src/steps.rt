@@ -62,15 +62,31 @@ fn takes_steps(
     };
     let asked_owner = asked.owner.or(asked_owner);
     let given_owner = given.owner.or(given_owner);
-    asked.name == given.name
-        && takes_owner(asked_owner, given_owner)
-        && has_all(asked.rest, given.rest)
+    takes_step(&asked, asked_owner, &given, given_owner)
         && takes_steps(
             behind_predicates(asked.rest),
             asked_owner,
             behind_predicates(given.rest),
             given_owner,
         )
+}
+
+/// Whether the one step takes the other, where these modules hold.
+fn takes_step(
+    asked: &Named,
+    asked_owner: Option<&[u8]>,
+    given: &Named,
+    given_owner: Option<&[u8]>,
+) -> bool
+    ensures { (asked_predicates given_predicates : List Predicate) (asked_steps given_steps : List Step)
+        → IsTail asked.now.rest.now asked_predicates asked_steps → IsTail given.now.rest.now given_predicates given_steps
+        → (IsTrue result ↔ TakesStep
+            (record { defined_in = option_copied asked_owner.entry; name = asked.now.name.now; predicates = asked_predicates })
+            (record { defined_in = option_copied given_owner.entry; name = given.now.name.now; predicates = given_predicates })) }
+{
+    asked.name == given.name
+        && takes_owner(asked_owner, given_owner)
+        && has_all(asked.rest, given.rest)
 }
 
 /// Whether the module is the one that is asked for, where one is.
@@ -106,11 +122,16 @@ fn has_predicate(text: &[u8], name: &[u8], value: &[u8]) -> bool
 {
     match cut_predicate(text) {
         Some(condition) => {
-            (condition.name == name && condition.value == value)
-                || has_predicate(condition.rest, name, value)
+            is_asked(&condition, name, value) || has_predicate(condition.rest, name, value)
         }
         None => false,
     }
+}
+
+fn is_asked(condition: &Condition, name: &[u8], value: &[u8]) -> bool
+    ensures { IsTrue result ↔ ((condition.now.name.now ≡ name.now) × (condition.now.value.now ≡ value.now)) }
+{
+    condition.name == name && condition.value == value
 }
 
 /// What follows the predicates at the front of the text.
