@@ -15,7 +15,7 @@ text_of (Oid text) = text
 text_of (Pattern pattern) = pattern
 
 abbrev pub IsOfForm : Form → Type 0
-IsOfForm (Path text) = IsXPath text × IsTrue (is_rooted text)
+IsOfForm (Path text) = IsXPath text
 IsOfForm (Oid text) = IsOid text
 IsOfForm (Pattern pattern) = IsPatternMatch pattern
 

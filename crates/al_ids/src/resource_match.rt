@@ -3,6 +3,7 @@
 ghost use Rattle.al_ids.specs.MatchForms.{IsFormFault, IsOfForm, text_of};
 ghost use Rattle.al_ids.specs.Matches.{IsMatch, IsOther, IsSized, IsXPathStop, Matches, is_rooted as is_rooted_of};
 ghost use Rattle.al_ids.specs.Oids.{IsOid};
+ghost use Rattle.al_ids.specs.Resources.{IsOfKind};
 ghost use Rattle.al_pattern.specs.Reading.{first_fault};
 ghost use Rattle.std.specs.Prelude.{◌≡◌, ◌≢◌, ◌⊎◌, ◌↔◌, ◌<◌, ◌≤◌, ℕ, Some, [], IfOk, IsOkUnless, IsTrue, MatchResult, length};
 
@@ -111,9 +112,13 @@ impl ResourceMatch {
     {
         let text = resource.text().bytes();
         match &self.form {
-            Form::Path(path) => resource.kind() == Kind::Path && steps::takes_path(path.bytes(), text),
-            Form::Oid(front) => resource.kind() == Kind::Oid && oid::is_front(front.bytes(), text),
-            Form::Pattern(pattern) => resource.kind() == Kind::Plain && pattern.matches(text),
+            Form::Path(path) => {
+                is_of(resource, Kind::Path) && steps::takes_path(path.bytes(), text)
+            }
+            Form::Oid(front) => {
+                is_of(resource, Kind::Oid) && oid::is_front(front.bytes(), text)
+            }
+            Form::Pattern(pattern) => is_of(resource, Kind::Plain) && pattern.matches(text),
         }
     }
 
@@ -139,6 +144,12 @@ impl Copied for ResourceMatch {
         };
         Ok(ResourceMatch { form })
     }
+}
+
+fn is_of(resource: &Resource, kind: Kind) -> bool
+    ensures { IsTrue result ↔ IsOfKind kind resource.now }
+{
+    resource.kind() == kind
 }
 
 /// The form of a text of 1 to 512 bytes.
