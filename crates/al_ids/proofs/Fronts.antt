@@ -12,7 +12,7 @@ front_len p (x ∷ xs) = elim (cases_Bool (p x)) [
     | inr fails ↦ rw fails refl
   ]
 
-joined : (p : ℕ → Bool) (xs : List ℕ) → front_of p xs ++ behind_front p xs ≡ xs
+pub joined : (p : ℕ → Bool) (xs : List ℕ) → front_of p xs ++ behind_front p xs ≡ xs
 joined p [] = refl
 joined p (x ∷ xs) = elim (cases_Bool (p x)) [
     | inl passes ↦ rw passes (ap (λ l. x ∷ l) (joined p xs))

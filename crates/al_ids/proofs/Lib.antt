@@ -4,5 +4,6 @@ pub mod MatchKinds
 pub mod OidFronts
 pub mod OidsRead
 pub mod PathCuts
+pub mod PathStops
 pub mod PathsRead
 pub mod StepMatches
