@@ -66,3 +66,17 @@ same_front p xs ys r s all_xs all_ys r_stops s_stops e = sym (front_read p xs r 
 
 pub same_behind : (p : ℕ → Bool) (xs ys r s : List ℕ) → list_all p xs ≡ true → list_all p ys ≡ true → stops p r ≡ true → stops p s ≡ true → xs ++ r ≡ ys ++ s → r ≡ s
 same_behind p xs ys r s all_xs all_ys r_stops s_stops e = sym (behind_read p xs r all_xs r_stops) ∙ ap (behind_front p) e ∙ behind_read p ys s all_ys s_stops
+
+pub front_passes : (p : ℕ → Bool) (xs : List ℕ) → list_all p (front_of p xs) ≡ true
+front_passes p [] = refl
+front_passes p (x ∷ xs) = elim (cases_Bool (p x)) [
+    | inl passes ↦ rw (passes, passes) (front_passes p xs)
+    | inr fails ↦ rw fails refl
+  ]
+
+pub behind_stops : (p : ℕ → Bool) (xs : List ℕ) → stops p (behind_front p xs) ≡ true
+behind_stops p [] = refl
+behind_stops p (x ∷ xs) = elim (cases_Bool (p x)) [
+    | inl passes ↦ rw passes (behind_stops p xs)
+    | inr fails ↦ rw (fails, fails) refl
+  ]

@@ -7,3 +7,4 @@ pub mod PathCuts
 pub mod PathStops
 pub mod PathsRead
 pub mod StepMatches
+pub mod XPathStops

@@ -153,14 +153,14 @@ run_quoted_next : (next : Option State) (byte : ℕ) (front : List ℕ) (from st
 run_quoted_next None byte front from state n e is later = absurd (cc)
 run_quoted_next (Some next) byte front from state n e is later = later next e (next_quoted from next byte n is)
 
-run_quoted : (front : List ℕ) (from state : State) → run front from ≡ Some state → IsQuoted from → IsQuoted state
+pub run_quoted : (front : List ℕ) (from state : State) → run front from ≡ Some state → IsQuoted from → IsQuoted state
 run_quoted [] from state e is = to_quoted from state e is
 run_quoted (byte ∷ front) from state e is = run_quoted_next (next_state from byte) byte front from state refl e is (λ next e' q. run_quoted front next state e' q)
 
 -- ---- what leads on
 
 -- bytes that make a path from a state on
-abbrev end_of : State → List ℕ
+abbrev pub end_of : State → List ℕ
 end_of Start = 47 ∷ 97 ∷ 58 ∷ 97 ∷ []
 end_of Begin = 47 ∷ 97 ∷ []
 end_of Root = 97 ∷ 58 ∷ 97 ∷ []
@@ -182,7 +182,7 @@ end_of Closed = []
 same_byte : (byte : ℕ) → (byte == byte) ≡ true
 same_byte byte = grind (arith, nat_tests)
 
-end_leads : (state : State) → leads_to_end (end_of state) state ≡ true
+pub end_leads : (state : State) → leads_to_end (end_of state) state ≡ true
 end_leads Start = refl
 end_leads Begin = refl
 end_leads Root = refl
@@ -210,7 +210,7 @@ quote_low : (quote : ℕ) → (quote ≡ 39) ⊎ (quote ≡ 34) → list_all (λ
 quote_low quote (inl single) = rw single refl
 quote_low quote (inr double) = rw double refl
 
-end_ascii : (state : State) → IsQuoted state → IsAscii (end_of state)
+pub end_ascii : (state : State) → IsQuoted state → IsAscii (end_of state)
 end_ascii Start is = ascii (end_of Start) refl
 end_ascii Begin is = ascii (end_of Begin) refl
 end_ascii Root is = ascii (end_of Root) refl
@@ -230,20 +230,20 @@ end_ascii Quoted is = ascii (end_of Quoted) refl
 end_ascii Closed is = IsAscii-nil
 
 -- bytes that go on a character, which stand only inside quotes
-abbrev goes_on : ℕ → Bool
+abbrev pub goes_on : ℕ → Bool
 goes_on byte = nat_le 128 byte && nat_lt byte 192
 
 no_quote : (quote byte : ℕ) → (quote ≡ 39) ⊎ (quote ≡ 34) → goes_on byte ≡ true → (byte == quote) ≡ false
 no_quote quote byte (inl single) on = rw single (grind (arith, nat_tests))
 no_quote quote byte (inr double) on = rw double (grind (arith, nat_tests))
 
-value_on : (quote : ℕ) (bytes rest : List ℕ) → (quote ≡ 39) ⊎ (quote ≡ 34) → list_all goes_on bytes ≡ true → leads_to_end (bytes ++ rest) (Value quote) ≡ leads_to_end rest (Value quote)
+pub value_on : (quote : ℕ) (bytes rest : List ℕ) → (quote ≡ 39) ⊎ (quote ≡ 34) → list_all goes_on bytes ≡ true → leads_to_end (bytes ++ rest) (Value quote) ≡ leads_to_end rest (Value quote)
 value_on quote [] rest is all = refl
 value_on quote (byte ∷ bytes) rest is all =
     rw (no_quote quote byte is (and_left (goes_on byte) (list_all goes_on bytes) all)) (value_on quote bytes rest is (and_right (goes_on byte) (list_all goes_on bytes) all))
 
 -- a value is being read
-abbrev InValue : State → Type 0
+abbrev pub InValue : State → Type 0
 InValue (Value quote) = Unit {0}
 InValue state = ⊥
 
@@ -291,7 +291,7 @@ next_high Quoted byte high is = rw (high_other byte 93 high (omega arith)) tt
 next_high Closed byte high is = rw (after_step_high byte high) tt
 
 -- whether the last byte is beyond ASCII
-abbrev ends_high : List ℕ → Bool
+abbrev pub ends_high : List ℕ → Bool
 ends_high [] = false
 ends_high (byte ∷ []) = nat_le 128 byte
 ends_high (byte ∷ next ∷ rest) = ends_high (next ∷ rest)
@@ -308,7 +308,7 @@ ends_in_value_next : (next : Option State) (byte : ℕ) (front : List ℕ) (from
 ends_in_value_next None byte front from state n e is later = absurd (cc)
 ends_in_value_next (Some next) byte front from state n e is later = later next e (next_quoted from next byte n is)
 
-ends_in_value : (front : List ℕ) (from state : State) → run front from ≡ Some state → IsQuoted from → ends_high front ≡ true → InValue state
+pub ends_in_value : (front : List ℕ) (from state : State) → run front from ≡ Some state → IsQuoted from → ends_high front ≡ true → InValue state
 ends_in_value [] from state e is high = absurd (false≢true high)
 ends_in_value (byte ∷ []) from state e is high = value_last (next_state from byte) state (next_high from byte (high_byte byte high) is) e
 ends_in_value (byte ∷ more ∷ front) from state e is high =
