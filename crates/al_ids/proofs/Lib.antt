@@ -7,4 +7,5 @@ pub mod PathCuts
 pub mod PathStops
 pub mod PathsRead
 pub mod StepMatches
+pub mod TextStopLemmas
 pub mod XPathStops

@@ -11,8 +11,9 @@ pub fn xpath_stop(text: &[u8]) -> Option<usize>
     ensures { MatchOption result (IsXPath text.now) (IsXPathStop text.now) }
 {
     match (path_stop(text), text_stop(text)) {
-        (Some(path), Some(text)) => Some(path.min(text)),
-        (Some(stop), None) | (None, Some(stop)) => Some(stop),
+        (Some(path), Some(bytes)) => Some(path.min(bytes)),
+        (Some(path), None) => Some(path),
+        (None, Some(bytes)) => Some(bytes),
         (None, None) => None,
     }
 }
