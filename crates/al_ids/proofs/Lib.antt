@@ -1,5 +1,6 @@
 pub mod Fronts
 pub mod Keyed
+pub mod MatchFaults
 pub mod MatchKinds
 pub mod OidFronts
 pub mod OidsRead

@@ -143,7 +143,7 @@ xpath_text front begins = record { rest = begins.rest; utf8 = begins.xpath.utf8 
 
 -- ---- shorter fronts
 
-longer : (text : List ℕ) (n m : ℕ) → n ≤ m → take m text ≡ take n text ++ drop n (take m text)
+pub longer : (text : List ℕ) (n m : ℕ) → n ≤ m → take m text ≡ take n text ++ drop n (take m text)
 longer text n m le = sym (take-append-drop n (take m text)) ∙ ap (λ l. l ++ drop n (take m text)) (take-take n m text le)
 
 shorter_path : (text : List ℕ) (n m : ℕ) → n ≤ m → BeginsPath (take m text) → BeginsPath (take n text)

@@ -1,7 +1,6 @@
 -- How a resource match is kept, and why a text of 1 to 512 bytes is none.
 use Rattle.std.specs.Prelude.{◌≡◌, ℕ, List, IsTrue, Some}
-use Rattle.al_pattern.specs.Reading.{tree_of, first_fault}
-use Rattle.al_pattern.specs.Trees.{IsSpelled}
+use Rattle.al_pattern.specs.Reading.{first_fault}
 use Rattle.al_ids.specs.Oids.{IsOid}
 use Rattle.al_ids.specs.Matches.{IsXPath, IsXPathStop, IsOther, IsPatternMatch, IsSized, is_rooted}
 use Rattle.al_ids.specs.declared.resource_match.Form.{Form}
@@ -28,5 +27,5 @@ abbrev pub IsFormFault : List ℕ → MatchFault → Type 0
 IsFormFault text faults.Empty = ⊥
 IsFormFault text faults.TooLong = ⊥
 IsFormFault text (faults.XPathUnsupported place) = IsTrue (is_rooted text) × IsXPathStop text place
-IsFormFault text (faults.Pattern fault) = IsOther text × (first_fault text ≡ Some fault) × ¬ (IsSpelled (tree_of text) text)
+IsFormFault text (faults.Pattern fault) = IsOther text × (first_fault text ≡ Some fault)
 IsFormFault text faults.Memory = IsTrue (is_rooted text) → IsXPath text

@@ -102,8 +102,10 @@ impl ResourceMatch {
         if text.len() > MAX_RESOURCE {
             return Err(MatchFault::TooLong);
         }
-        let form = form_of(alloc, text)?;
-        Ok(ResourceMatch { form })
+        match form_of(alloc, text) {
+            Ok(form) => Ok(ResourceMatch { form }),
+            Err(fault) => Err(fault),
+        }
     }
 
     /// Whether the match takes the resource. No memory is taken.
