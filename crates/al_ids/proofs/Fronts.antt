@@ -8,16 +8,16 @@ use Rattle.al_ids.specs.StepReading.{front_of, behind_front}
 front_len : (p : ℕ → Bool) (xs : List ℕ) → prefix_len p xs ≡ length (front_of p xs)
 front_len p [] = refl
 front_len p (x ∷ xs) = elim (cases_Bool (p x)) [
-    | inl passes ↦ rw passes (omega (arith, front_len p xs))
-    | inr fails ↦ rw fails refl
-  ]
+  | inl passes ↦ rw passes (omega (arith, front_len p xs))
+  | inr fails ↦ rw fails refl
+]
 
 pub joined : (p : ℕ → Bool) (xs : List ℕ) → front_of p xs ++ behind_front p xs ≡ xs
 joined p [] = refl
 joined p (x ∷ xs) = elim (cases_Bool (p x)) [
-    | inl passes ↦ rw passes (ap (λ l. x ∷ l) (joined p xs))
-    | inr fails ↦ rw fails refl
-  ]
+  | inl passes ↦ rw passes (ap (λ l. x ∷ l) (joined p xs))
+  | inr fails ↦ rw fails refl
+]
 
 while_front : (p : ℕ → Bool) (xs : List ℕ) → take_while p xs ≡ front_of p xs
 while_front p xs =
@@ -70,13 +70,13 @@ same_behind p xs ys r s all_xs all_ys r_stops s_stops e = sym (behind_read p xs 
 pub front_passes : (p : ℕ → Bool) (xs : List ℕ) → list_all p (front_of p xs) ≡ true
 front_passes p [] = refl
 front_passes p (x ∷ xs) = elim (cases_Bool (p x)) [
-    | inl passes ↦ rw (passes, passes) (front_passes p xs)
-    | inr fails ↦ rw fails refl
-  ]
+  | inl passes ↦ rw (passes, passes) (front_passes p xs)
+  | inr fails ↦ rw fails refl
+]
 
 pub behind_stops : (p : ℕ → Bool) (xs : List ℕ) → stops p (behind_front p xs) ≡ true
 behind_stops p [] = refl
 behind_stops p (x ∷ xs) = elim (cases_Bool (p x)) [
-    | inl passes ↦ rw passes (behind_stops p xs)
-    | inr fails ↦ rw (fails, fails) refl
-  ]
+  | inl passes ↦ rw passes (behind_stops p xs)
+  | inr fails ↦ rw (fails, fails) refl
+]

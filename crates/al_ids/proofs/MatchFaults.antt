@@ -32,12 +32,12 @@ no_earlier text n m less first second =
 
 one_place : (text : List ℕ) (n m : ℕ) → IsXPathStop text n → IsXPathStop text m → n ≡ m
 one_place text n m first second = elim (order n m) [
-    | inl less ↦ absurd (no_earlier text n m less first second)
-    | inr le ↦ elim (order m n) [
-      | inl less ↦ absurd (no_earlier text m n less second first)
-      | inr ge ↦ omega arith
-    ]
+  | inl less ↦ absurd (no_earlier text n m less first second)
+  | inr le ↦ elim (order m n) [
+    | inl less ↦ absurd (no_earlier text m n less second first)
+    | inr ge ↦ omega arith
   ]
+]
 
 -- ---- one fault
 
@@ -65,9 +65,10 @@ told_stop text fault place is same = let Told : MatchFault → Type 0 = λ f. Is
 -- that a form's fault is the stop of an XPath, exactly where there is one
 pub stop_exactly : {T : Type 0} (r : Result T MatchFault) (Sized : Type 0) (text : List ℕ) (fault : MatchFault) (place : ℕ) → r ≡ Err fault → Sized → IsFormFault text fault
     → (r ≡ Err (faults.XPathUnsupported place)) ↔ (Sized × IsTrue (is_rooted text) × IsXPathStop text place)
-stop_exactly r Sized text fault place failed sized is =
-    (λ e. let same : fault ≡ faults.XPathUnsupported place = cc in let told = told_stop text fault place is same in (sized, told.0, told.1),
-     λ stop. failed ∙ ap Err (stop_told text fault place is stop.1 stop.2))
+stop_exactly r Sized text fault place failed sized is = (
+  λ e. let same : fault ≡ faults.XPathUnsupported place = cc in let told = told_stop text fault place is same in (sized, told.0, told.1),
+  λ stop. failed ∙ ap Err (stop_told text fault place is stop.1 stop.2),
+)
 
 -- what was read has no fault
 pub no_fault_read : (text : List ℕ) (form : Form) (fault : PatternFault) → text_of form ≡ text → IsOfForm form → IsOther text → ¬ (first_fault text ≡ Some fault)

@@ -68,9 +68,9 @@ same_byte byte = grind (arith, nat_tests)
 
 predicate_words : (p : Predicate) → IsPredicate p → AreWords p.defined_in p.name
 predicate_words p is = elim is.names [
-    | inl names ↦ names_are_words p.defined_in p.name names
-    | inr dot ↦ rw (dot.0, dot.1) (record { owner_goes_on = tt; name_goes_on = refl })
-  ]
+  | inl names ↦ names_are_words p.defined_in p.name names
+  | inr dot ↦ rw (dot.0, dot.1) (record { owner_goes_on = tt; name_goes_on = refl })
+]
 
 equals_ends : (rest : List ℕ) → EndsNames (61 ∷ rest)
 equals_ends rest = record { no_word = refl; no_colon = refl }
@@ -84,9 +84,13 @@ predicate_parts p rest is =
     let quoted : List ℕ = p.value ++ (p.quote ∷ 93 ∷ rest) in
     let test : List ℕ = p.quote ∷ quoted in
     let ended = quote_stops p.quote (93 ∷ rest) in
-    rw (name_read p.defined_in p.name (61 ∷ test) words (equals_ends test), names_passed p.defined_in p.name (61 ∷ test) words (equals_ends test),
-        front_read (is_inside p.quote) p.value (p.quote ∷ 93 ∷ rest) is.inside ended, behind_read (is_inside p.quote) p.value (p.quote ∷ 93 ∷ rest) is.inside ended,
-        same_byte p.quote) refl
+    rw (
+      name_read p.defined_in p.name (61 ∷ test) words (equals_ends test),
+      names_passed p.defined_in p.name (61 ∷ test) words (equals_ends test),
+      front_read (is_inside p.quote) p.value (p.quote ∷ 93 ∷ rest) is.inside ended,
+      behind_read (is_inside p.quote) p.value (p.quote ∷ 93 ∷ rest) is.inside ended,
+      same_byte p.quote,
+    ) refl
 
 abbrev pub IsRead : Option Parts → List Predicate → List Step → Type 0
 IsRead None [] steps = Unit {0}

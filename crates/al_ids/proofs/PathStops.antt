@@ -63,14 +63,14 @@ pub record Stopped (text : List ℕ) (from : State) (place stop : ℕ) : Type 0 
 
 stopped_later : (byte : ℕ) (rest : List ℕ) (from next : State) (place stop : ℕ) → next_state from byte ≡ Some next → Stopped rest next (place + 1) stop → Stopped (byte ∷ rest) from place stop
 stopped_later byte rest from next place stop is later = record {
-    front = byte ∷ later.front;
-    rest = later.rest;
-    state = later.state;
-    spelled = ap (λ l. byte ∷ l) later.spelled;
-    at = omega (arith, later.at);
-    reached = rw is later.reached;
-    ends = later.ends;
-  }
+  front = byte ∷ later.front;
+  rest = later.rest;
+  state = later.state;
+  spelled = ap (λ l. byte ∷ l) later.spelled;
+  at = omega (arith, later.at);
+  reached = rw is later.reached;
+  ends = later.ends;
+}
 
 stopped_next : (next : Option State) (byte : ℕ) (rest : List ℕ) (from : State) (place stop : ℕ) → next_state from byte ≡ next → Some stop ≡ option_map_or (stop_from (place + 1) rest) next (Some place)
     → ((state : State) → Some stop ≡ stop_from (place + 1) rest state → Stopped rest state (place + 1) stop) → Stopped (byte ∷ rest) from place stop
@@ -79,10 +79,10 @@ stopped_next (Some state) byte rest from place stop is e later = stopped_later b
 
 pub stopped : (text : List ℕ) (from : State) (place stop : ℕ) → Some stop ≡ stop_from place text from → Stopped text from place stop
 stopped [] from place stop e = elim (cases_Bool (may_end from)) [
-    | inl ends ↦ absurd (let no : Some stop ≡ None = rw ends at e in cc)
-    | inr goes ↦ let is : Some stop ≡ Some place = rw goes at e in
-        record { front = []; rest = []; state = from; spelled = refl; at = let same : stop ≡ place = cc in omega arith; reached = refl; ends = goes }
-  ]
+  | inl ends ↦ absurd (let no : Some stop ≡ None = rw ends at e in cc)
+  | inr goes ↦ let is : Some stop ≡ Some place = rw goes at e in
+      record { front = []; rest = []; state = from; spelled = refl; at = let same : stop ≡ place = cc in omega arith; reached = refl; ends = goes }
+]
 stopped (byte ∷ rest) from place stop e = stopped_next (next_state from byte) byte rest from place stop refl e (λ state e'. stopped rest state (place + 1) stop e')
 
 not_stopped_next : (next : Option State) (rest : List ℕ) (place : ℕ) → None ≡ option_map_or (stop_from (place + 1) rest) next (Some place) → ((state : State) → None ≡ stop_from (place + 1) rest state → leads_to_end rest state ≡ true) → option_map_or (leads_to_end rest) next false ≡ true
@@ -91,9 +91,9 @@ not_stopped_next (Some state) rest place e later = later state e
 
 pub not_stopped : (text : List ℕ) (from : State) (place : ℕ) → None ≡ stop_from place text from → leads_to_end text from ≡ true
 not_stopped [] from place e = elim (cases_Bool (may_end from)) [
-    | inl ends ↦ ends
-    | inr goes ↦ absurd (let no : None ≡ Some place = rw goes at e in cc)
-  ]
+  | inl ends ↦ ends
+  | inr goes ↦ absurd (let no : None ≡ Some place = rw goes at e in cc)
+]
 not_stopped (byte ∷ rest) from place e = not_stopped_next (next_state from byte) rest place e (λ state e'. not_stopped rest state (place + 1) e')
 
 -- ---- quotes

@@ -35,11 +35,13 @@ later : (found : Parts) (name value : List ℕ) (answer : Bool) (predicates : Li
     → ¬ ((found.name ≡ name) × (found.value ≡ value)) → Answers found.rest name value answer → IsTrue answer ↔ HasPredicate predicates asked
 later found name value answer [] steps asked read asked_name asked_value other answers = absurd read
 later found name value answer (p ∷ predicates) steps asked read asked_name asked_value other answers =
-    let rest = answers predicates steps asked read.2 asked_name asked_value in
-    (λ h. inr (rest.0 h), λ has. elim has [
-      | inl same ↦ absurd (other (read.0 ∙ sym same.0 ∙ asked_name, read.1 ∙ sym same.1 ∙ asked_value))
-      | inr among ↦ rest.1 among
-    ])
+    let rest = answers predicates steps asked read.2 asked_name asked_value in (
+      λ h. inr (rest.0 h),
+      λ has. elim has [
+        | inl same ↦ absurd (other (read.0 ∙ sym same.0 ∙ asked_name, read.1 ∙ sym same.1 ∙ asked_value))
+        | inr among ↦ rest.1 among
+      ],
+    )
 
 pub has_later : (text : List ℕ) (found : Parts) (name value : List ℕ) (answer : Bool) → Some found ≡ parts_of text → ¬ ((found.name ≡ name) × (found.value ≡ value)) → Answers found.rest name value answer → Answers text name value answer
 has_later text found name value answer e other answers predicates steps asked tail asked_name asked_value =
@@ -80,9 +82,10 @@ first_lacks found given first (p ∷ asked_predicates) given_predicates asked_st
     false≢true (sym is ∙ (answers given_predicates given_steps p tail (sym read.0) (sym read.1)).1 each.0)
 
 pub all_lack : (asked given : List ℕ) (found : Parts) (first : Bool) → Some found ≡ parts_of asked → Answers given found.name found.value first → first ≡ false → AllAnswer asked given first
-all_lack asked given found first e answers is asked_predicates given_predicates asked_steps given_steps asked_tail given_tail =
-    (λ h. absurd (false≢true (sym is ∙ h)),
-     λ each. absurd (first_lacks found given first asked_predicates given_predicates asked_steps given_steps (read_as asked (Some found) asked_predicates asked_steps e asked_tail) given_tail answers is each))
+all_lack asked given found first e answers is asked_predicates given_predicates asked_steps given_steps asked_tail given_tail = (
+  λ h. absurd (false≢true (sym is ∙ h)),
+  λ each. absurd (first_lacks found given first asked_predicates given_predicates asked_steps given_steps (read_as asked (Some found) asked_predicates asked_steps e asked_tail) given_tail answers is each),
+)
 
 no_more : (given_predicates asked_predicates : List Predicate) (asked_steps : List Step) → IsRead None asked_predicates asked_steps → AllByRecursion (HasPredicate given_predicates) asked_predicates
 no_more given_predicates [] asked_steps read = tt
@@ -170,9 +173,10 @@ more_asked owner name rest asked_owner (s ∷ steps) read all = all
 
 pub given_ended : (asked given : List ℕ) (asked_owner given_owner owner : Option (List ℕ)) (name rest : List ℕ) → IsCut asked owner name rest → None ≡ option_map owner_of (behind_byte 47 given) → StepsAnswer asked asked_owner given given_owner false
 given_ended asked given asked_owner given_owner owner name rest cut e asked_steps given_steps asked_each asked_spelled given_each given_spelled =
-    let none = ended given e given_steps given_each given_spelled in
-    (λ h. absurd (false≢true h),
-     rw none (λ all. absurd (more_asked owner name rest asked_owner asked_steps (head_read asked owner name rest asked_steps cut asked_each asked_spelled) all)))
+    let none = ended given e given_steps given_each given_spelled in (
+      λ h. absurd (false≢true h),
+      rw none (λ all. absurd (more_asked owner name rest asked_owner asked_steps (head_read asked owner name rest asked_steps cut asked_each asked_spelled) all)),
+    )
 
 -- a step and its module
 abbrev stepped : Option (List ℕ) → List ℕ → List Predicate → Step
@@ -215,8 +219,8 @@ pub heads : (asked given : List ℕ) (asked_owner given_owner : Option (List ℕ
     → f.first ≡ true → StepsAnswer asked asked_owner given given_owner answer
 heads asked given asked_owner given_owner f asked_behind given_behind answer asked_leads given_leads answers is asked_steps given_steps asked_each asked_spelled given_each given_spelled =
     let all = both asked given asked_owner given_owner f asked_behind given_behind answer asked_leads given_leads answers asked_steps given_steps
-      (head_read asked f.asked_said f.asked_name f.asked_rest asked_steps f.asked_cut asked_each asked_spelled)
-      (head_read given f.given_said f.given_name f.given_rest given_steps f.given_cut given_each given_spelled) in
+    (head_read asked f.asked_said f.asked_name f.asked_rest asked_steps f.asked_cut asked_each asked_spelled)
+    (head_read given f.given_said f.given_name f.given_rest given_steps f.given_cut given_each given_spelled) in
     (λ h. all.0 (is, h), λ zip. (all.1 zip).1)
 
 differs : (asked given : List ℕ) (asked_owner given_owner : Option (List ℕ)) (f : FirstSteps asked given asked_owner given_owner) → f.first ≡ false
@@ -227,15 +231,16 @@ differs asked given asked_owner given_owner f is (m ∷ ms) [] asked_read given_
 differs asked given asked_owner given_owner f is (m ∷ ms) (r ∷ rs) asked_read given_read all =
     let one = f.first_is m.predicates r.predicates ms rs asked_read.2 given_read.2 in
     let takes : TakesStep (stepped (option_or f.asked_said asked_owner) f.asked_name m.predicates) (stepped (option_or f.given_said given_owner) f.given_name r.predicates) =
-      rw (asked_read.0, asked_read.1, given_read.0, given_read.1) all.0 in
+    rw (asked_read.0, asked_read.1, given_read.0, given_read.1) all.0 in
     false≢true (sym is ∙ one.1 takes)
 
 pub apart : (asked given : List ℕ) (asked_owner given_owner : Option (List ℕ)) (f : FirstSteps asked given asked_owner given_owner) → f.first ≡ false → StepsAnswer asked asked_owner given given_owner f.first
-apart asked given asked_owner given_owner f is asked_steps given_steps asked_each asked_spelled given_each given_spelled =
-    (λ h. absurd (false≢true (sym is ∙ h)),
-     λ all. absurd (differs asked given asked_owner given_owner f is asked_steps given_steps
+apart asked given asked_owner given_owner f is asked_steps given_steps asked_each asked_spelled given_each given_spelled = (
+  λ h. absurd (false≢true (sym is ∙ h)),
+  λ all. absurd (differs asked given asked_owner given_owner f is asked_steps given_steps
       (head_read asked f.asked_said f.asked_name f.asked_rest asked_steps f.asked_cut asked_each asked_spelled)
-      (head_read given f.given_said f.given_name f.given_rest given_steps f.given_cut given_each given_spelled) all))
+      (head_read given f.given_said f.given_name f.given_rest given_steps f.given_cut given_each given_spelled) all),
+)
 
 -- the same for modules behind references
 copied_or : (a b : Option (Bor (List ℕ))) → option_copied (option_or a b) ≡ option_or (option_copied a) (option_copied b)

@@ -44,29 +44,33 @@ heads_one c rest low = record { first = inl low; second = λ h. absurd (omega ar
 
 heads_two : (c : ℕ) (rest : List ℕ) → 128 ≤ c → c < 2048 → Heads ((192 + c / 64) ∷ (128 + c % 64) ∷ rest)
 heads_two c rest low high = record {
-    first = inr (omega arith, omega arith);
-    second = λ h. (least_is (192 + c / 64) (128 + c % 64) (omega arith) (λ e. absurd (omega arith)) (λ e. absurd (omega arith)), most_is (192 + c / 64) (128 + c % 64) (omega arith) (λ e. absurd (omega arith)) (λ e. absurd (omega arith)));
-    third = λ h. absurd (omega arith);
-    fourth = λ h. absurd (omega arith);
-  }
+  first = inr (omega arith, omega arith);
+  second = λ h. (least_is (192 + c / 64) (128 + c % 64) (omega arith) (λ e. absurd (omega arith)) (λ e. absurd (omega arith)), most_is (192 + c / 64) (128 + c % 64) (omega arith) (λ e. absurd (omega arith)) (λ e. absurd (omega arith)));
+  third = λ h. absurd (omega arith);
+  fourth = λ h. absurd (omega arith);
+}
 
 heads_three : (c : ℕ) (rest : List ℕ) → 2048 ≤ c → c < 65536 → Scalar c → Heads ((224 + c / 4096) ∷ (128 + (c / 64) % 64) ∷ (128 + c % 64) ∷ rest)
 heads_three c rest low high scalar = record {
-    first = inr (omega arith, omega arith);
-    second = λ h. (least_is (224 + c / 4096) (128 + (c / 64) % 64) (omega arith) (λ e. omega arith) (λ e. absurd (omega arith)),
-      most_is (224 + c / 4096) (128 + (c / 64) % 64) (omega arith) (λ e. elim scalar [ | inl below ↦ omega arith | inr above ↦ omega arith ]) (λ e. absurd (omega arith)));
-    third = λ h. (omega arith, omega arith);
-    fourth = λ h. absurd (omega arith);
-  }
+  first = inr (omega arith, omega arith);
+  second = λ h. (
+    least_is (224 + c / 4096) (128 + (c / 64) % 64) (omega arith) (λ e. omega arith) (λ e. absurd (omega arith)),
+    most_is (224 + c / 4096) (128 + (c / 64) % 64) (omega arith) (λ e. elim scalar [ inl below ↦ omega arith | inr above ↦ omega arith ]) (λ e. absurd (omega arith)),
+  );
+  third = λ h. (omega arith, omega arith);
+  fourth = λ h. absurd (omega arith);
+}
 
 heads_four : (c : ℕ) (rest : List ℕ) → 65536 ≤ c → c < 1114112 → Heads ((240 + c / 262144) ∷ (128 + (c / 4096) % 64) ∷ (128 + (c / 64) % 64) ∷ (128 + c % 64) ∷ rest)
 heads_four c rest low high = record {
-    first = inr (omega arith, omega arith);
-    second = λ h. (least_is (240 + c / 262144) (128 + (c / 4096) % 64) (omega arith) (λ e. absurd (omega arith)) (λ e. omega arith),
-      most_is (240 + c / 262144) (128 + (c / 4096) % 64) (omega arith) (λ e. absurd (omega arith)) (λ e. omega arith));
-    third = λ h. (omega arith, omega arith);
-    fourth = λ h. (omega arith, omega arith);
-  }
+  first = inr (omega arith, omega arith);
+  second = λ h. (
+    least_is (240 + c / 262144) (128 + (c / 4096) % 64) (omega arith) (λ e. absurd (omega arith)) (λ e. omega arith),
+    most_is (240 + c / 262144) (128 + (c / 4096) % 64) (omega arith) (λ e. absurd (omega arith)) (λ e. omega arith),
+  );
+  third = λ h. (omega arith, omega arith);
+  fourth = λ h. (omega arith, omega arith);
+}
 
 below_top : (c : ℕ) → Scalar c → c < 1114112
 below_top c (inl h) = omega arith
@@ -113,9 +117,9 @@ full_two x y low high r = of_two (x ∷ y ∷ []) 0 (omega arith) (low, high) (y
 
 above : (m n : ℕ) → (m ≡ n) ⊎ ((m < n) ⊎ (n < m))
 above m n = elim (cases_Bool (m == n)) [
-    | inl same ↦ inl (eqb-true _ _ same)
-    | inr other ↦ inr (elim (order m n) [ | inl less ↦ inl less | inr le ↦ inr (grind (arith, nat_tests)) ])
-  ]
+  | inl same ↦ inl (eqb-true _ _ same)
+  | inr other ↦ inr (elim (order m n) [ inl less ↦ inl less | inr le ↦ inr (grind (arith, nat_tests)) ])
+]
 
 full_three : (x y z : ℕ) → 224 ≤ x → x < 240 → InRange x y → (128 ≤ z) × (z < 192) → IsUtf8 (x ∷ y ∷ z ∷ [])
 full_three x y z low high r cont =
@@ -123,12 +127,12 @@ full_three x y z low high r cont =
     let yh = y_high x y r in
     let least : 2048 ≤ (x - 224) * 4096 + (y - 128) * 64 + (z - 128) = elim (above x 224) [
       | inl same ↦ let h = y_224 x y r same in omega arith
-      | inr other ↦ elim other [ | inl less ↦ omega arith | inr more ↦ omega arith ]
+      | inr other ↦ elim other [ inl less ↦ omega arith | inr more ↦ omega arith ]
     ] in
     of_three (x ∷ y ∷ z ∷ []) 0 (omega arith) (low, high) (yl, yh) cont least
     (elim (above x 237) [
       | inl same ↦ let h = y_237 x y r same in inl (omega arith)
-      | inr other ↦ elim other [ | inl less ↦ inl (omega arith) | inr more ↦ inr (omega arith) ]
+      | inr other ↦ elim other [ inl less ↦ inl (omega arith) | inr more ↦ inr (omega arith) ]
     ])
 
 full_four : (x y z w : ℕ) → 240 ≤ x → x ≤ 244 → InRange x y → (128 ≤ z) × (z < 192) → (128 ≤ w) × (w < 192) → IsUtf8 (x ∷ y ∷ z ∷ w ∷ [])
@@ -137,25 +141,25 @@ full_four x y z w low high r cont last =
     let yh = y_high x y r in
     let least : 16 ≤ (x - 240) * 64 + (y - 128) = elim (above x 240) [
       | inl same ↦ let h = y_240 x y r same in omega arith
-      | inr other ↦ elim other [ | inl less ↦ omega arith | inr more ↦ omega arith ]
+      | inr other ↦ elim other [ inl less ↦ omega arith | inr more ↦ omega arith ]
     ] in
     let most : (x - 240) * 64 + (y - 128) < 272 = elim (above x 244) [
       | inl same ↦ let h = y_244 x y r same in omega arith
-      | inr other ↦ elim other [ | inl less ↦ omega arith | inr more ↦ omega arith ]
+      | inr other ↦ elim other [ inl less ↦ omega arith | inr more ↦ omega arith ]
     ] in
     of_four (x ∷ y ∷ z ∷ w ∷ []) 0 (omega arith) low (yl, yh) cont last (least, most)
 
 begins_three : (x y z : ℕ) → 224 ≤ x → x ≤ 244 → InRange x y → (128 ≤ z) × (z < 192) → BeginsText (x ∷ y ∷ z ∷ [])
 begins_three x y z low high r cont = elim (order x 240) [
-    | inl less ↦ record { rest = []; utf8 = full_three x y z low less r cont }
-    | inr more ↦ record { rest = 128 ∷ []; utf8 = full_four x y z 128 more high r cont (omega arith, omega arith) }
-  ]
+  | inl less ↦ record { rest = []; utf8 = full_three x y z low less r cont }
+  | inr more ↦ record { rest = 128 ∷ []; utf8 = full_four x y z 128 more high r cont (omega arith, omega arith) }
+]
 
 begins_two : (x y : ℕ) → 194 ≤ x → x ≤ 244 → InRange x y → BeginsText (x ∷ y ∷ [])
 begins_two x y low high r = elim (order x 224) [
-    | inl less ↦ record { rest = []; utf8 = full_two x y low less r }
-    | inr more ↦ let b = begins_three x y 128 more high r (omega arith, omega arith) in record { rest = 128 ∷ b.rest; utf8 = b.utf8 }
-  ]
+  | inl less ↦ record { rest = []; utf8 = full_two x y low less r }
+  | inr more ↦ let b = begins_three x y 128 more high r (omega arith, omega arith) in record { rest = 128 ∷ b.rest; utf8 = b.utf8 }
+]
 
 least_second : (x : ℕ) → InRange x (second_byte_min x)
 least_second x = record { least = omega arith; most = grind (arith, nat_tests) }
@@ -207,16 +211,16 @@ goes_no_further text v p (byte ∷ r) valid e not less begins =
     let there : take (v + length q) text ≡ take v text ++ q = taken text v q r valid (e ∙ sym (append_assoc p (byte ∷ []) r)) in
     let same : v + length p + 1 ≡ v + length q = omega (arith, length-append p (byte ∷ [])) in
     let whole : take (v + length p + 1) text ++ begins.rest ≡ take v text ++ (p ++ (byte ∷ begins.rest)) =
-      ap (λ n. take n text ++ begins.rest) same ∙ ap (λ l. l ++ begins.rest) there ∙ append_assoc (take v text) q begins.rest ∙ ap (λ l. take v text ++ l) (append_assoc p (byte ∷ []) begins.rest) in
+    ap (λ n. take n text ++ begins.rest) same ∙ ap (λ l. l ++ begins.rest) there ∙ append_assoc (take v text) q begins.rest ∙ ap (λ l. take v text ++ l) (append_assoc p (byte ∷ []) begins.rest) in
     not begins.rest (behind_utf8 (take v text) (p ++ (byte ∷ begins.rest)) valid.front (subst IsUtf8 whole begins.utf8))
 
 stop_at : (text : List ℕ) (v : ℕ) (p r : List ℕ) → IsValidUpTo text v → drop v text ≡ p ++ r → BeginsText p → GoesNot p r → IsTextStop text (v + length p)
 stop_at text v p r valid e begins not = record {
-    within = let long = text_length text v p r valid e in omega arith;
-    before = record { rest = begins.rest; utf8 = subst IsUtf8 (sym (ap (λ l. l ++ begins.rest) (taken text v p r valid e) ∙ append_assoc (take v text) p begins.rest)) (IsUtf8-append (take v text) (p ++ begins.rest) valid.front begins.utf8) };
-    here = goes_no_further text v p r valid e not;
-    whole = λ utf8. valid.longest (length text) valid.short (subst IsUtf8 (sym (take_all (length text) text (omega arith))) utf8);
-  }
+  within = let long = text_length text v p r valid e in omega arith;
+  before = record { rest = begins.rest; utf8 = subst IsUtf8 (sym (ap (λ l. l ++ begins.rest) (taken text v p r valid e) ∙ append_assoc (take v text) p begins.rest)) (IsUtf8-append (take v text) (p ++ begins.rest) valid.front begins.utf8) };
+  here = goes_no_further text v p r valid e not;
+  whole = λ utf8. valid.longest (length text) valid.short (subst IsUtf8 (sym (take_all (length text) text (omega arith))) utf8);
+}
 
 stop_moved : (text : List ℕ) (n m : ℕ) → n ≡ m → IsTextStop text n → IsTextStop text m
 stop_moved text n m e stop = let At : ℕ → Type 0 = λ k. IsTextStop text k in subst At e stop
@@ -297,27 +301,27 @@ not_second x y first second more utf8 =
 -- a third: where the two bytes are no character already
 not_third : (text : List ℕ) (v x y z : ℕ) (rest : List ℕ) → IsValidUpTo text v → drop v text ≡ x ∷ y ∷ z ∷ rest → is_first x ≡ true → is_second x y ≡ true → is_later z ≡ false → (more : List ℕ) → ¬ (IsUtf8 ((x ∷ y ∷ []) ++ (z ∷ more)))
 not_third text v x y z rest valid e first second third more utf8 = elim (order x 224) [
-    | inl less ↦ no_char text v (x ∷ y ∷ []) (z ∷ rest) valid e (omega arith) (full_two x y (and_le 0xC2 0xF4 x first) less (in_range x y second))
-    | inr high ↦ let h = heads_of x (y ∷ z ∷ more) utf8 in let range = h.third high in not_later z third range.0 range.1
-  ]
+  | inl less ↦ no_char text v (x ∷ y ∷ []) (z ∷ rest) valid e (omega arith) (full_two x y (and_le 0xC2 0xF4 x first) less (in_range x y second))
+  | inr high ↦ let h = heads_of x (y ∷ z ∷ more) utf8 in let range = h.third high in not_later z third range.0 range.1
+]
 
 not_fourth : (text : List ℕ) (v x y z w : ℕ) (rest : List ℕ) → IsValidUpTo text v → drop v text ≡ x ∷ y ∷ z ∷ w ∷ rest → is_first x ≡ true → is_second x y ≡ true → is_later z ≡ true → (more : List ℕ) → ¬ (IsUtf8 ((x ∷ y ∷ z ∷ []) ++ (w ∷ more)))
 not_fourth text v x y z w rest valid e first second third more utf8 = elim (order x 224) [
-    | inl less ↦ no_char text v (x ∷ y ∷ []) (z ∷ w ∷ rest) valid e (omega arith) (full_two x y (and_le 0xC2 0xF4 x first) less (in_range x y second))
-    | inr high ↦ elim (order x 240) [
-      | inl less ↦ no_char text v (x ∷ y ∷ z ∷ []) (w ∷ rest) valid e (omega arith) (full_three x y z high less (in_range x y second) (later_range z third))
-      | inr higher ↦
-          let h = heads_of x (y ∷ z ∷ w ∷ more) utf8 in
-          let range = h.fourth higher in
-          no_char text v (x ∷ y ∷ z ∷ w ∷ []) rest valid e (omega arith) (full_four x y z w higher (and_ge 0xC2 0xF4 x first) (in_range x y second) (later_range z third) range)
-    ]
+  | inl less ↦ no_char text v (x ∷ y ∷ []) (z ∷ w ∷ rest) valid e (omega arith) (full_two x y (and_le 0xC2 0xF4 x first) less (in_range x y second))
+  | inr high ↦ elim (order x 240) [
+    | inl less ↦ no_char text v (x ∷ y ∷ z ∷ []) (w ∷ rest) valid e (omega arith) (full_three x y z high less (in_range x y second) (later_range z third))
+    | inr higher ↦
+        let h = heads_of x (y ∷ z ∷ w ∷ more) utf8 in
+        let range = h.fourth higher in
+        no_char text v (x ∷ y ∷ z ∷ w ∷ []) rest valid e (omega arith) (full_four x y z w higher (and_ge 0xC2 0xF4 x first) (in_range x y second) (later_range z third) range)
   ]
+]
 
 begins_three_or_char : (text : List ℕ) (v x y z : ℕ) (rest : List ℕ) → IsValidUpTo text v → drop v text ≡ x ∷ y ∷ z ∷ rest → is_first x ≡ true → is_second x y ≡ true → is_later z ≡ true → BeginsText (x ∷ y ∷ z ∷ [])
 begins_three_or_char text v x y z rest valid e first second third = elim (order x 224) [
-    | inl less ↦ absurd (no_char text v (x ∷ y ∷ []) (z ∷ rest) valid e (omega arith) (full_two x y (and_le 0xC2 0xF4 x first) less (in_range x y second)))
-    | inr high ↦ begins_three x y z high (and_ge 0xC2 0xF4 x first) (in_range x y second) (later_range z third)
-  ]
+  | inl less ↦ absurd (no_char text v (x ∷ y ∷ []) (z ∷ rest) valid e (omega arith) (full_two x y (and_le 0xC2 0xF4 x first) less (in_range x y second)))
+  | inr high ↦ begins_three x y z high (and_ge 0xC2 0xF4 x first) (in_range x y second) (later_range z third)
+]
 
 stop_behind_third : (text : List ℕ) (v x y z : ℕ) (rest : List ℕ) (len : Option ℕ) → IsValidUpTo text v → drop v text ≡ x ∷ y ∷ z ∷ rest → is_first x ≡ true → is_second x y ≡ true → is_later z ≡ true → len ≡ utf8_error_len (x ∷ y ∷ z ∷ rest) → IsTextStop text (place_of text v len)
 stop_behind_third text v x y z [] len valid e first second third is =
@@ -329,17 +333,17 @@ stop_behind_second : (text : List ℕ) (v x y : ℕ) (rest : List ℕ) (len : Op
 stop_behind_second text v x y [] len valid e first second is =
     no_place text v (x ∷ y ∷ []) len valid e (begins_two x y (and_le 0xC2 0xF4 x first) (and_ge 0xC2 0xF4 x first) (in_range x y second)) (is ∙ told_two x y first second)
 stop_behind_second text v x y (z ∷ rest) len valid e first second is = elim (cases_Bool (is_later z)) [
-    | inl third ↦ stop_behind_third text v x y z rest len valid e first second third is
-    | inr other ↦ some_place text v 2 (x ∷ y ∷ []) (z ∷ rest) len valid e (begins_two x y (and_le 0xC2 0xF4 x first) (and_ge 0xC2 0xF4 x first) (in_range x y second)) (not_third text v x y z rest valid e first second other) refl (is ∙ told_not_third x y z rest first second other)
-  ]
+  | inl third ↦ stop_behind_third text v x y z rest len valid e first second third is
+  | inr other ↦ some_place text v 2 (x ∷ y ∷ []) (z ∷ rest) len valid e (begins_two x y (and_le 0xC2 0xF4 x first) (and_ge 0xC2 0xF4 x first) (in_range x y second)) (not_third text v x y z rest valid e first second other) refl (is ∙ told_not_third x y z rest first second other)
+]
 
 stop_behind_first : (text : List ℕ) (v x : ℕ) (rest : List ℕ) (len : Option ℕ) → IsValidUpTo text v → drop v text ≡ x ∷ rest → is_first x ≡ true → len ≡ utf8_error_len (x ∷ rest) → IsTextStop text (place_of text v len)
 stop_behind_first text v x [] len valid e first is =
     no_place text v (x ∷ []) len valid e (begins_one x (and_le 0xC2 0xF4 x first) (and_ge 0xC2 0xF4 x first)) (is ∙ told_one x first)
 stop_behind_first text v x (y ∷ rest) len valid e first is = elim (cases_Bool (is_second x y)) [
-    | inl second ↦ stop_behind_second text v x y rest len valid e first second is
-    | inr other ↦ some_place text v 1 (x ∷ []) (y ∷ rest) len valid e (begins_one x (and_le 0xC2 0xF4 x first) (and_ge 0xC2 0xF4 x first)) (not_second x y first other) refl (is ∙ told_not_second x y rest first other)
-  ]
+  | inl second ↦ stop_behind_second text v x y rest len valid e first second is
+  | inr other ↦ some_place text v 1 (x ∷ []) (y ∷ rest) len valid e (begins_one x (and_le 0xC2 0xF4 x first) (and_ge 0xC2 0xF4 x first)) (not_second x y first other) refl (is ∙ told_not_second x y rest first other)
+]
 
 -- what stands behind what is valid
 behind_valid : (text : List ℕ) (v : ℕ) → IsValidUpTo text v → drop v text ≡ get_or text v 0 ∷ drop (v + 1) text
@@ -352,9 +356,9 @@ fault_stop text v len valid first is =
 
 no_first : (x : ℕ) (more : List ℕ) → is_first x ≡ false → 128 ≤ x → ¬ (IsUtf8 (x ∷ more))
 no_first x more first high utf8 = let h = heads_of x more utf8 in elim h.first [
-    | inl low ↦ absurd (omega arith)
-    | inr range ↦ not_in 0xC2 0xF4 x first range.0 range.1
-  ]
+  | inl low ↦ absurd (omega arith)
+  | inr range ↦ not_in 0xC2 0xF4 x first range.0 range.1
+]
 
 ascii_char : (x : ℕ) → x < 128 → IsUtf8 (x ∷ [])
 ascii_char x low = of_one (x ∷ []) 0 (omega arith) low
@@ -365,5 +369,5 @@ byte_stop text v valid first =
     let x : ℕ = get_or text v 0 in
     let rest : List ℕ = drop (v + 1) text in
     let e : drop v text ≡ x ∷ rest = behind_valid text v valid in
-    let high : 128 ≤ x = elim (order x 128) [ | inl low ↦ absurd (no_char text v (x ∷ []) rest valid e (omega arith) (ascii_char x low)) | inr high ↦ high ] in
+    let high : 128 ≤ x = elim (order x 128) [ inl low ↦ absurd (no_char text v (x ∷ []) rest valid e (omega arith) (ascii_char x low)) | inr high ↦ high ] in
     stop_moved text (v + 0) v (omega arith) (stop_at text v [] (x ∷ rest) valid e (record { rest = []; utf8 = IsUtf8-nil }) (λ more utf8. no_first x more first high utf8))

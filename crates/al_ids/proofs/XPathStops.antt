@@ -111,9 +111,9 @@ first_on byte cont all = and_left (goes_on byte) (list_all goes_on cont) all
 cont_leads : (front cont : List ℕ) (state : State) → run front Begin ≡ Some state → IsQuoted state → list_all goes_on cont ≡ true → IsUtf8 (front ++ cont) → leads_to_end (cont ++ end_of state) state ≡ true
 cont_leads front [] state is quoted all utf8 = end_leads state
 cont_leads front (byte ∷ cont) state is quoted all utf8 = elim (cases_Bool (ends_high front)) [
-    | inl high ↦ value_leads state (byte ∷ cont) (ends_in_value front Begin state is tt high) quoted all
-    | inr low ↦ absurd (no_inner front byte cont low (first_on byte cont all) utf8)
-  ]
+  | inl high ↦ value_leads state (byte ∷ cont) (ends_in_value front Begin state is tt high) quoted all
+  | inr low ↦ absurd (no_inner front byte cont low (first_on byte cont all) utf8)
+]
 
 -- What begins both a path and a text begins an XPath.
 pub begins_xpath : (front : List ℕ) → BeginsPath front → BeginsText front → BeginsXPath front
@@ -198,11 +198,11 @@ no_byte front (byte ∷ rest) state is ends less begins =
 
 stop_spelled : (front rest : List ℕ) (state : State) → run front Begin ≡ Some state → Ends rest state → IsPathStop (front ++ rest) (length front)
 stop_spelled front rest state is ends = record {
-    within = let long = length-append front rest in omega arith;
-    before = subst BeginsPath (sym (take_at front rest (length front) refl)) (front_leads front state is);
-    here = no_byte front rest state is ends;
-    whole = no_longer front rest state is ends;
-  }
+  within = let long = length-append front rest in omega arith;
+  before = subst BeginsPath (sym (take_at front rest (length front) refl)) (front_leads front state is);
+  here = no_byte front rest state is ends;
+  whole = no_longer front rest state is ends;
+}
 
 pub path_stop_is : (text : List ℕ) (place : ℕ) → Some place ≡ stop_from 0 text Begin → IsPathStop text place
 path_stop_is text place e =
@@ -216,9 +216,9 @@ path_stop_is text place e =
 
 first_of_two : (a b : ℕ) → (min a b ≡ a) ⊎ (min a b ≡ b)
 first_of_two a b = elim (cases_Bool (nat_le a b)) [
-    | inl le ↦ inl (let h : a ≤ b = grind (arith, nat_tests) in omega arith)
-    | inr gt ↦ inr (let h : b ≤ a = grind (arith, nat_tests) in omega arith)
-  ]
+  | inl le ↦ inl (let h : a ≤ b = grind (arith, nat_tests) in omega arith)
+  | inr gt ↦ inr (let h : b ≤ a = grind (arith, nat_tests) in omega arith)
+]
 
 pub both_stop : (text : List ℕ) (path bytes : ℕ) → Some path ≡ stop_from 0 text Begin → IsTextStop text bytes → IsXPathStop text (min path bytes)
 both_stop text path bytes e stop =

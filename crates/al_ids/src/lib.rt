@@ -2,6 +2,8 @@
 #![tactic(auto)]
 
 pub mod key;
+#[cfg(test)]
+mod match_tests;
 mod oid;
 mod path;
 pub mod resource;

@@ -129,7 +129,11 @@ impl State {
                 None => return Some(place),
             }
         }
-        if state.may_end() { None } else { Some(text.len()) }
+        if state.may_end() {
+            None
+        } else {
+            Some(text.len())
+        }
     }
 }
 

@@ -7,10 +7,9 @@ ghost use Rattle.al_ids.specs.Resources.{IsOfKind};
 ghost use Rattle.al_pattern.specs.Reading.{first_fault};
 ghost use Rattle.std.specs.Prelude.{◌≡◌, ◌≢◌, ◌⊎◌, ◌↔◌, ◌<◌, ◌≤◌, ℕ, Some, [], IfOk, IsOkUnless, IsTrue, MatchResult, length};
 
-use crate::oid;
 use crate::resource::{Kind, MAX_RESOURCE, Resource};
-use crate::steps;
 use crate::xpath::xpath_stop;
+use crate::{oid, steps};
 use al_base::{Copied, Text, TextFault};
 use al_pattern::{Pattern, PatternFault};
 use std::alloc::{AllocError, Global};
@@ -39,7 +38,10 @@ impl fmt::Display for MatchFault {
         match self {
             MatchFault::Empty => f.write_str("the resource match is empty"),
             MatchFault::TooLong => f.write_str("the resource match is longer than 512 bytes"),
-            MatchFault::XPathUnsupported(place) => write!(f, "the path isn't supported at byte {place}"),
+            MatchFault::XPathUnsupported(place) => write!(
+                f,
+                "the path isn't supported at byte {place}"
+            ),
             MatchFault::Pattern(fault) => write!(f, "the resource match is no pattern: {fault:?}"),
             MatchFault::Memory => f.write_str("out of memory"),
         }
@@ -117,9 +119,7 @@ impl ResourceMatch {
             Form::Path(path) => {
                 is_of(resource, Kind::Path) && steps::takes_path(path.bytes(), text)
             }
-            Form::Oid(front) => {
-                is_of(resource, Kind::Oid) && oid::is_front(front.bytes(), text)
-            }
+            Form::Oid(front) => { is_of(resource, Kind::Oid) && oid::is_front(front.bytes(), text) }
             Form::Pattern(pattern) => is_of(resource, Kind::Plain) && pattern.matches(text),
         }
     }

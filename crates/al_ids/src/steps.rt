@@ -52,7 +52,7 @@ fn takes_steps(
         → AllByRecursion IsStep asked_steps → asked.now ≡ path_text asked_steps
         → AllByRecursion IsStep given_steps → given.now ≡ path_text given_steps
         → (IsTrue result ↔ AllZip TakesStep (with_modules (option_copied asked_owner.entry) asked_steps)
-            (with_modules (option_copied given_owner.entry) given_steps)) }
+        (with_modules (option_copied given_owner.entry) given_steps)) }
 {
     let Some(asked) = cut_step(asked) else {
         return given.is_empty();
@@ -81,8 +81,8 @@ fn takes_step(
     ensures { (asked_predicates given_predicates : List Predicate) (asked_steps given_steps : List Step)
         → IsTail asked.now.rest.now asked_predicates asked_steps → IsTail given.now.rest.now given_predicates given_steps
         → (IsTrue result ↔ TakesStep
-            (record { defined_in = option_copied asked_owner.entry; name = asked.now.name.now; predicates = asked_predicates })
-            (record { defined_in = option_copied given_owner.entry; name = given.now.name.now; predicates = given_predicates })) }
+        (record { defined_in = option_copied asked_owner.entry; name = asked.now.name.now; predicates = asked_predicates })
+        (record { defined_in = option_copied given_owner.entry; name = given.now.name.now; predicates = given_predicates })) }
 {
     asked.name == given.name
         && takes_owner(asked_owner, given_owner)
@@ -227,7 +227,9 @@ fn word_len(text: &[u8]) -> usize
     ensures len { result ≡ length (take_while continues_identifier_of text.now) }
     ensures within { result ≤ length text.now }
 {
-    text.iter().take_while(|byte| continues_identifier(**byte)).count()
+    text.iter()
+        .take_while(|byte| continues_identifier(**byte))
+        .count()
 }
 
 /// The bytes before the quote, and the text from it on.

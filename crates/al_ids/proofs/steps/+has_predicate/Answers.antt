@@ -5,9 +5,11 @@ use Rattle.al_ids.proofs.steps.+has_predicate.Goals as goal
 
 pub returns-then-is_asked : goal.returns-then-is_asked
 returns-then-is_asked t c = λ predicates steps asked tail name value.
-    let same = c.is_asked.ensures.0 c.if-is_asked.true in
-    (λ h. has_here c.args.text.now (record { name = c.in-Some.condition.name.now; value = c.in-Some.condition.value.now; rest = c.in-Some.condition.rest.now })
-      c.args.name.now c.args.value.now c.in-Some.ensures.parts same.0 same.1 predicates steps asked tail name value, λ has. c.if-is_asked.true)
+    let same = c.is_asked.ensures.0 c.if-is_asked.true in (
+      λ h. has_here c.args.text.now (record { name = c.in-Some.condition.name.now; value = c.in-Some.condition.value.now; rest = c.in-Some.condition.rest.now })
+          c.args.name.now c.args.value.now c.in-Some.ensures.parts same.0 same.1 predicates steps asked tail name value,
+      λ has. c.if-is_asked.true,
+    )
 
 pub returns-else-is_asked : goal.returns-else-is_asked
 returns-else-is_asked t c =
