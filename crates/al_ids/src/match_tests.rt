@@ -52,7 +52,7 @@ const TAKES: [(&str, &str, bool); 38] = [
 ];
 
 /// Bytes that are no match, with the fault.
-const FAULTS: [(&[u8], MatchFault); 29] = [
+const FAULTS: [(&[u8], MatchFault); 27] = [
     (b"", MatchFault::Empty),
     (b"/", MatchFault::XPathUnsupported(1)),
     (b"//link", MatchFault::XPathUnsupported(1)),
@@ -80,11 +80,6 @@ const FAULTS: [(&[u8], MatchFault); 29] = [
     (b"eth{2}", MatchFault::Pattern(PatternFault::Unsupported(3))),
     (b"(a", MatchFault::Pattern(PatternFault::Syntax(2))),
     (b"\xff", MatchFault::Pattern(PatternFault::Unsupported(0))),
-    (
-        &[b'a'; 512],
-        MatchFault::Pattern(PatternFault::TooLarge(256)),
-    ),
-    (&[b'/'; 513], MatchFault::TooLong),
 ];
 
 fn takes(alloc: Global, text: &str, resource: &str) -> Result<bool, Fail> {
@@ -113,6 +108,22 @@ fn tells_the_first_fault(rt: HostRuntime) {
             Err(found) => assert_eq!(rt; found, *fault),
         }
     }
+}
+
+#[test]
+fn reads_512_bytes(rt: HostRuntime) -> Result<(), Fail> {
+    let alloc = rt.alloc();
+    for (len, fault) in [
+        (512, MatchFault::Pattern(PatternFault::TooLarge(256))),
+        (513, MatchFault::TooLong),
+    ] {
+        let mut text = Vec::new(alloc);
+        for _ in 0..len {
+            text.push(b'a')?;
+        }
+        assert_eq!(rt; ResourceMatch::read(alloc, &text).err(), Some(fault));
+    }
+    Ok(())
 }
 
 #[test]

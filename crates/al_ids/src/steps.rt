@@ -41,7 +41,7 @@ pub fn takes_path(asked: &[u8], given: &[u8]) -> bool
 
 /// Whether the steps take as many others, where these modules hold before them.
 ///
-/// A path has at most 256 steps, and this calls itself once for each.
+/// Calls itself once for each step, of which a text of 512 bytes has at most 256.
 fn takes_steps(
     asked: &[u8],
     asked_owner: Option<&[u8]>,
