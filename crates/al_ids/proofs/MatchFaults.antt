@@ -1,12 +1,12 @@
 -- A text has one answer: its form, or one fault.
-use Rattle.std.proofs.Common.{◌≡◌, ◌↔◌, ◌⊎◌, inl, inr, IsTrue, ℕ, ◌+◌, ◌<◌, ◌≤◌, Bool, true, false, Option, Some, None, List, [], ◌∷◌, ◌++◌, length, take, drop, Result, Err, refl, sym, ap, subst, ◌∙◌, arith, append_assoc}
+use Rattle.std.proofs.Common.{◌≡◌, ◌↔◌, inl, inr, IsTrue, ℕ, ◌+◌, ◌<◌, ◌≤◌, true, Some, None, List, ◌++◌, take, drop, Result, Err, refl, sym, ap, subst, ◌∙◌, arith, append_assoc}
 use Rattle.std.proofs.lemmas.Bool.{false≢true}
 use Rattle.std.proofs.str.Laws.{order}
 use Rattle.al_pattern.specs.declared.fault.PatternFault.{PatternFault}
 use Rattle.al_pattern.specs.Reading.{tree_of, first_fault}
 use Rattle.al_pattern.proofs.OnlyLemmas.{fault_again}
 use Rattle.al_ids.specs.Oids.{IsOid}
-use Rattle.al_ids.specs.Matches.{is_rooted, IsXPath, IsOther, IsPatternMatch, IsFormed, BeginsXPath, IsXPathStop}
+use Rattle.al_ids.specs.Matches.{is_rooted, IsXPath, IsOther, IsFormed, BeginsXPath, IsXPathStop}
 use Rattle.al_ids.specs.MatchForms.{text_of, IsOfForm, IsFormFault}
 use Rattle.al_ids.specs.declared.resource_match.Form.{Form}
 use Rattle.al_ids.specs.declared.resource_match.Form.TheVariants.{Path, Oid, Pattern}

@@ -1,13 +1,12 @@
 -- A match takes resources of its own kind alone.
-use Rattle.std.proofs.Common.{◌≡◌, ◌≢◌, ◌↔◌, ◌⊎◌, inl, inr, IsTrue, ℕ, Bool, true, false, not, ◌&&◌, List, [], ◌∷◌, ◌++◌, refl, sym, ap, ◌∙◌, arith}
+use Rattle.std.proofs.Common.{◌≡◌, ◌≢◌, ◌↔◌, inl, inr, IsTrue, ℕ, Bool, true, false, List, [], ◌∷◌, refl, sym, ap, ◌∙◌, arith}
 use Rattle.std.specs.Prelude.{◌==◌}
-use Rattle.std.specs.Char.{is_ascii_digit}
 use Rattle.std.specs.List.{AllByRecursion, join_with_byte}
 use Rattle.std.proofs.lemmas.Bool.{false≢true}
 use Rattle.std.proofs.lemmas.Bool.Decides.{nat_tests}
 use Rattle.al_ids.specs.Oids.{is_arc, IsRooted, IsOid}
-use Rattle.al_ids.specs.Paths.{Step, path_text, IsStep, IsPath}
-use Rattle.al_ids.specs.Matches.{is_rooted, IsXPath, IsOther, IsPatternMatch, TakesPath, TakesOid, TakesPlain, Matches}
+use Rattle.al_ids.specs.Paths.{Step, path_text, IsPath}
+use Rattle.al_ids.specs.Matches.{is_rooted, IsXPath, IsPatternMatch, TakesPath, TakesOid, TakesPlain, Matches}
 
 steps_rooted : (steps : List Step) → steps ≢ [] → is_rooted (path_text steps) ≡ true
 steps_rooted [] some = absurd (some refl)

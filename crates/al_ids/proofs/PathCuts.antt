@@ -1,11 +1,11 @@
 -- What is cut off a path is what it was spelled of.
-use Rattle.std.proofs.Common.{◌≡◌, ◌⊎◌, inl, inr, IsTrue, ℕ, Bool, true, false, not, ◌&&◌, Option, Some, None, IfSome, List, [], ◌∷◌, ◌++◌, refl, sym, ap, subst, ◌∙◌, append_assoc, arith}
+use Rattle.std.proofs.Common.{◌≡◌, inl, inr, ℕ, Bool, true, false, ◌&&◌, Option, Some, None, IfSome, List, [], ◌∷◌, ◌++◌, refl, sym, ap, subst, ◌∙◌, append_assoc, arith}
 use Rattle.std.specs.Prelude.{◌==◌}
 use Rattle.std.specs.List.{AllByRecursion, flat_map, list_all}
 use Rattle.std.proofs.lemmas.Bool.Decides.{nat_tests}
 use Rattle.al_base.specs.Identifiers.{begins_identifier, continues_identifier, is_identifier}
 use Rattle.al_ids.specs.Paths.{Predicate, Step, qualified, predicate_text, path_text, AreNames, IsPredicate, IsStep}
-use Rattle.al_ids.specs.StepReading.{front_of, behind_front, behind_byte, is_inside, word_of, behind_word, owner_of, name_of, behind_names, Parts, parts_of, IsTail}
+use Rattle.al_ids.specs.StepReading.{behind_byte, is_inside, word_of, behind_word, owner_of, name_of, behind_names, Parts, parts_of, IsTail}
 use Rattle.al_ids.proofs.Fronts.{stops, front_read, behind_read}
 
 and_left : (a b : Bool) → (a && b) ≡ true → a ≡ true

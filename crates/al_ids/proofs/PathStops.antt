@@ -1,26 +1,18 @@
 -- Where a path stops, and that whatever leads so far leads on to some path.
-use Rattle.std.proofs.Common.{◌≡◌, ◌⊎◌, inl, inr, IsTrue, ℕ, zero, suc, ◌+◌, ◌<◌, ◌≤◌, Bool, true, false, not, cond, ◌&&◌, Option, Some, None, List, [], ◌∷◌, ◌++◌, length, get_or, take, drop, refl, sym, ap, subst, ◌∙◌, arith, append_assoc, length-append, append-nil}
-use Rattle.std.specs.Prelude.{◌==◌, ◌||◌, nat_le, nat_lt, IsUtf8}
-use Rattle.std.specs.Int.{is_in_range}
+use Rattle.std.proofs.Common.{◌≡◌, ◌⊎◌, inl, inr, ℕ, ◌+◌, ◌<◌, ◌≤◌, Bool, true, false, cond, ◌&&◌, Option, Some, None, List, [], ◌∷◌, ◌++◌, length, refl, ap, subst, arith}
+use Rattle.std.specs.Prelude.{◌==◌, ◌||◌, nat_le, nat_lt}
 use Rattle.std.specs.List.{list_all}
 use Rattle.std.specs.Option.{option_and_then, option_map_or}
-use Rattle.std.specs.Str.{IsCharBoundary, IsAscii}
+use Rattle.std.specs.Str.{IsAscii}
 use Rattle.std.proofs.lemmas.Bool.{cases_Bool, eqb-true, or_cases, false≢true}
 use Rattle.std.proofs.lemmas.Bool.Decides.{nat_tests}
-use Rattle.std.proofs.lemmas.List.{take_at, get_or_at, get_or_append_left}
-use Rattle.std.proofs.lemmas.Str.{IsUtf8-append, IsUtf8-from_ascii, IsUtf8-take, IsCharBoundary-start, IsCharBoundary-after_ascii}
 use Rattle.std.proofs.lemmas.Str.Ascii.{IsAscii-nil, IsAscii-cons}
 use Rattle.al_base.specs.Identifiers.{begins_identifier, continues_identifier}
-use Rattle.al_ids.specs.Matches.{IsXPath, BeginsXPath}
 use Rattle.al_ids.specs.PathReading.{when, after_step, after_name, next_state, may_end, leads_to_end, stop_from}
-use Rattle.al_ids.specs.StepReading.{front_of, behind_front}
-use Rattle.al_ids.specs.TextStops.{BeginsText}
 use Rattle.al_ids.specs.declared.path.Part.{Part}
 use Rattle.al_ids.specs.declared.path.Part.TheVariants as part
 use Rattle.al_ids.specs.declared.path.State.{State}
 use Rattle.al_ids.specs.declared.path.State.TheVariants.{Start, Begin, Root, Module, Slash, Open, Word, Colon, Name, Dot, Equals, Value, Quoted, Closed}
-use Rattle.al_ids.proofs.Fronts.{joined}
-use Rattle.al_ids.proofs.PathsRead.{leads_path_text, path_text_leads}
 
 and_left : (a b : Bool) → (a && b) ≡ true → a ≡ true
 and_left true b h = refl

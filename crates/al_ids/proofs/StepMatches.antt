@@ -1,14 +1,14 @@
 -- What was found at the front of a path, and whether a step takes another.
-use Rattle.std.proofs.Common.{◌≡◌, ◌↔◌, ◌⊎◌, inl, inr, IsTrue, ℕ, Bool, true, false, not, Option, Some, None, IfSome, List, [], ◌∷◌, ◌++◌, refl, sym, ap, subst, ◌∙◌, length, Bor, arith}
+use Rattle.std.proofs.Common.{◌≡◌, ◌↔◌, inl, inr, IsTrue, ℕ, Bool, true, false, Option, Some, None, List, [], ◌∷◌, refl, sym, ap, subst, ◌∙◌, length, Bor, arith}
 use Rattle.std.specs.List.{AllByRecursion, AllZip}
 use Rattle.std.specs.Prelude.{◌==◌}
 use Rattle.std.specs.Option.{option_copied, option_map, option_or}
 use Rattle.std.proofs.lemmas.Bool.Decides.{nat_tests}
 use Rattle.std.proofs.lemmas.Bool.{false≢true}
 use Rattle.al_ids.specs.Paths.{Predicate, Step, path_text, IsStep}
-use Rattle.al_ids.specs.Matches.{IsSamePredicate, HasPredicate, with_modules, TakesStep}
+use Rattle.al_ids.specs.Matches.{HasPredicate, with_modules, TakesStep}
 use Rattle.al_ids.specs.StepReading.{behind_byte, owner_of, name_of, behind_names, Parts, parts_of, IsTail}
-use Rattle.al_ids.proofs.PathCuts.{IsRead, parts_read, IsStepRead, AreStepsRead, steps_read}
+use Rattle.al_ids.proofs.PathCuts.{IsRead, parts_read, AreStepsRead, steps_read}
 
 -- ---- among the predicates
 

@@ -1,21 +1,21 @@
 -- Where a text stops being an XPath: where it stops being a path or being UTF-8, whichever comes first.
-use Rattle.std.proofs.Common.{◌≡◌, ◌⊎◌, inl, inr, IsTrue, ℕ, zero, suc, ◌+◌, ◌<◌, ◌≤◌, Bool, true, false, not, ◌&&◌, Option, Some, None, List, [], ◌∷◌, ◌++◌, length, get_or, take, drop, min, refl, sym, ap, subst, ◌∙◌, arith, append_assoc, length-append, append-nil}
-use Rattle.std.specs.Prelude.{nat_le, nat_lt, IsUtf8}
+use Rattle.std.proofs.Common.{◌≡◌, ◌⊎◌, inl, inr, ℕ, zero, suc, ◌+◌, ◌<◌, ◌≤◌, Bool, true, false, not, ◌&&◌, Option, Some, None, List, [], ◌∷◌, ◌++◌, length, get_or, take, drop, min, refl, sym, ap, subst, ◌∙◌, arith, append_assoc, length-append}
+use Rattle.std.specs.Prelude.{nat_le, IsUtf8}
 use Rattle.std.specs.List.{list_all}
 use Rattle.std.specs.Option.{option_map_or}
 use Rattle.std.specs.Str.{IsCharBoundary}
 use Rattle.std.proofs.lemmas.Bool.{cases_Bool, false≢true}
 use Rattle.std.proofs.lemmas.Bool.Decides.{nat_tests}
-use Rattle.std.proofs.lemmas.List.{take_at, get_or_at, get_or_append_left, take-append-drop, take-append-le, take-take, length-take-le}
+use Rattle.std.proofs.lemmas.List.{take_at, get_or_at, get_or_append_left, take-append-drop, take-take}
 use Rattle.std.proofs.lemmas.Str.{IsUtf8-append, IsUtf8-from_ascii, IsUtf8-take, IsCharBoundary-start, IsCharBoundary-after_ascii}
 use Rattle.al_ids.specs.Matches.{IsXPath, BeginsXPath, IsXPathStop}
-use Rattle.al_ids.specs.PathReading.{next_state, may_end, leads_to_end, stop_from}
+use Rattle.al_ids.specs.PathReading.{leads_to_end, stop_from}
 use Rattle.al_ids.specs.StepReading.{front_of, behind_front}
 use Rattle.al_ids.specs.TextStops.{BeginsText, IsTextStop}
 use Rattle.al_ids.specs.declared.path.State.{State}
 use Rattle.al_ids.specs.declared.path.State.TheVariants.{Start, Begin, Root, Module, Slash, Open, Word, Colon, Name, Dot, Equals, Value, Quoted, Closed}
 use Rattle.al_ids.proofs.Fronts.{joined, stops, front_passes, behind_stops}
-use Rattle.al_ids.proofs.PathStops.{run, leads_behind, Ends, Stopped, stopped, not_stopped, IsQuoted, run_quoted, end_of, end_leads, end_ascii, goes_on, value_on, InValue, ends_high, ends_in_value}
+use Rattle.al_ids.proofs.PathStops.{run, leads_behind, Ends, stopped, not_stopped, IsQuoted, run_quoted, end_of, end_leads, end_ascii, goes_on, value_on, InValue, ends_high, ends_in_value}
 use Rattle.al_ids.proofs.PathsRead.{leads_path_text, path_text_leads}
 
 and_left : (a b : Bool) → (a && b) ≡ true → a ≡ true

@@ -1,5 +1,4 @@
 use Rattle.std.proofs.Common.{sym, ◌∙◌}
-use Rattle.al_ids.specs.Matches.{IsXPathStop}
 use Rattle.al_ids.proofs.XPathStops.{both_stop, path_stop_alone, text_stop_alone, no_stop}
 use Rattle.al_ids.proofs.xpath.xpath_stop.Goals as goal
 

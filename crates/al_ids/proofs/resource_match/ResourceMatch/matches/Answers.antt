@@ -1,6 +1,4 @@
 use Rattle.std.proofs.Common.{sym, ap, ◌∙◌, ◌≡◌}
-use Rattle.al_ids.specs.Matches.{IsXPath, IsPatternMatch}
-use Rattle.al_ids.specs.Oids.{IsOid}
 use Rattle.al_ids.specs.MatchForms.{text_of}
 use Rattle.al_ids.proofs.MatchKinds.{path_refused, oid_moved, oid_refused, plain_refused}
 use Rattle.al_ids.proofs.resource_match.ResourceMatch.matches.Goals as goal

@@ -1,4 +1,4 @@
-use Rattle.std.proofs.Common.{◌≤◌, Err, Result, refl, length, arith}
+use Rattle.std.proofs.Common.{◌≤◌, Err, refl, length, arith}
 use Rattle.std.proofs.lemmas.Bool.Decides.{nat_tests}
 use Rattle.al_ids.specs.Matches.{IsSized}
 use Rattle.al_ids.proofs.MatchFaults.{only_memory, stop_exactly, no_fault_read}
