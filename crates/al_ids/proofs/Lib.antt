@@ -1,3 +1,12 @@
+pub mod Fronts
 pub mod Keyed
+pub mod MatchFaults
+pub mod MatchKinds
+pub mod OidFronts
 pub mod OidsRead
+pub mod PathCuts
+pub mod PathStops
 pub mod PathsRead
+pub mod StepMatches
+pub mod TextStopLemmas
+pub mod XPathStops

@@ -1,5 +1,5 @@
 -- The reader of paths comes to an end exactly on paths.
-use Rattle.std.proofs.Common.{◌≡◌, ◌↔◌, ◌⊎◌, IsTrue, inl, inr, ℕ, Bool, true, false, not, ◌&&◌, cond, Option, Some, None, IsSome, List, [], ◌∷◌, ◌++◌, refl, sym, ap, ◌∙◌, append_assoc}
+use Rattle.std.proofs.Common.{◌≡◌, ◌≢◌, ◌↔◌, ◌⊎◌, IsTrue, inl, inr, ℕ, Bool, true, false, not, ◌&&◌, cond, Option, Some, None, IsSome, List, [], ◌∷◌, ◌++◌, refl, sym, ap, ◌∙◌, append_assoc}
 use Rattle.std.specs.Prelude.{◌==◌, ◌||◌}
 use Rattle.std.specs.List.{AllByRecursion, flat_map, list_all}
 use Rattle.std.specs.Option.{option_map_or}
@@ -12,7 +12,7 @@ use Rattle.al_ids.specs.PathReading.{when, after_step, after_name, next_state, m
 use Rattle.al_ids.specs.declared.path.Part.{Part}
 use Rattle.al_ids.specs.declared.path.Part.TheVariants as part
 use Rattle.al_ids.specs.declared.path.State.{State}
-use Rattle.al_ids.specs.declared.path.State.TheVariants.{Start, Root, Module, Slash, Open, Word, Colon, Name, Dot, Equals, Value, Quoted, Closed}
+use Rattle.al_ids.specs.declared.path.State.TheVariants.{Start, Begin, Root, Module, Slash, Open, Word, Colon, Name, Dot, Equals, Value, Quoted, Closed}
 
 and_left : (a b : Bool) → (a && b) ≡ true → a ≡ true
 and_left true b h = refl
@@ -112,9 +112,17 @@ record Opened (bytes : List ℕ) : Type 0 where
   test : Test rest
   spelling : bytes ≡ qualified owner name ++ rest
 
+-- a path whose steps need not say their modules
+pub record IsPathText (text : List ℕ) : Type 0 where
+  pub steps : List Step
+  pub each : AllByRecursion IsStep steps
+  pub some : steps ≢ []
+  pub spelling : text ≡ path_text steps
+
 -- what leads from a state to the end of a path
 abbrev Leads : State → List ℕ → Type 0
 Leads Start bytes = IsPath bytes
+Leads Begin bytes = IsPathText bytes
 Leads Root bytes = ModuleWhole bytes
 Leads Module bytes = ModuleRest part.Step bytes
 Leads Slash bytes = Names part.Step bytes
@@ -278,12 +286,24 @@ rooted byte rest slash whole =
       spelling = step_spelled byte rest (whole.owner ++ (58 ∷ name.name)) name.rest (flat_map predicate_text tail.predicates) (path_text tail.steps) slash spelled tail.spelling;
     }
 
+-- the same where the first step need not say its module
+begun : (byte : ℕ) (rest : List ℕ) → byte ≡ 47 → Names part.Step rest → IsPathText (byte ∷ rest)
+begun byte rest slash names =
+    let tail : Tail names.rest = names.follows in
+    record {
+      steps = (record { defined_in = names.owner; name = names.name; predicates = tail.predicates }) ∷ tail.steps;
+      each = (record { names = names.names; each = tail.each_predicate }, tail.each_step);
+      some = λ none. cc;
+      spelling = step_spelled byte rest (qualified names.owner names.name) names.rest (flat_map predicate_text tail.predicates) (path_text tail.steps) slash names.spelling tail.spelling;
+    }
+
 -- What leads to the end is a path from there on.
 read_on : (rest : List ℕ) (state : State) → leads_to_end rest state ≡ true → Leads state rest
 read_on [] (Word part.Step) h = inl (record { name = []; rest = []; goes_on = refl; follows = no_tail; spelling = refl })
 read_on [] (Name part.Step) h = record { name = []; rest = []; goes_on = refl; follows = no_tail; spelling = refl }
 read_on [] Closed h = no_tail
 read_on [] Start h = absurd (cc)
+read_on [] Begin h = absurd (cc)
 read_on [] Root h = absurd (cc)
 read_on [] Module h = absurd (cc)
 read_on [] Slash h = absurd (cc)
@@ -297,6 +317,8 @@ read_on [] (Value quote) h = absurd (cc)
 read_on [] Quoted h = absurd (cc)
 read_on (byte ∷ rest) Start h =
     let slash = chosen (byte == 47) Root rest h in rooted byte rest (eqb-true _ _ slash.0) (read_on rest Root slash.1)
+read_on (byte ∷ rest) Begin h =
+    let slash = chosen (byte == 47) Slash rest h in begun byte rest (eqb-true _ _ slash.0) (read_on rest Slash slash.1)
 read_on (byte ∷ rest) Root h =
     let begins = chosen (begins_identifier byte) Module rest h in
     whole_module byte rest begins.0 (read_on rest Module begins.1)
@@ -440,3 +462,14 @@ leads_path text h = read_on text Start h
 
 pub path_read : (text : List ℕ) (answer : Bool) → answer ≡ leads_to_end text Start → IsTrue answer ↔ IsPath text
 path_read text answer e = (λ h. leads_path text (sym e ∙ h), λ path. e ∙ path_leads text path)
+
+steps_from_begin : (steps : List Step) → AllByRecursion IsStep steps → steps ≢ [] → leads_to_end (path_text steps) Begin ≡ true
+steps_from_begin [] each some = absurd (some refl)
+steps_from_begin (s ∷ steps) each some = steps_lead (s ∷ steps) each Closed (refl, refl, refl)
+
+-- The same for paths whose steps need not say their modules.
+pub path_text_leads : (text : List ℕ) → IsPathText text → leads_to_end text Begin ≡ true
+path_text_leads text path = rw path.spelling (steps_from_begin path.steps path.each path.some)
+
+pub leads_path_text : (text : List ℕ) → leads_to_end text Begin ≡ true → IsPathText text
+leads_path_text text h = read_on text Begin h

@@ -1,6 +1,10 @@
 pub mod Keys
+pub mod MatchForms
+pub mod Matches
 pub mod OidReading
 pub mod Oids
 pub mod PathReading
 pub mod Paths
 pub mod Resources
+pub mod StepReading
+pub mod TextStops

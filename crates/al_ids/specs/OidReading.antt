@@ -29,3 +29,8 @@ may_end place = false
 abbrev pub leads_to_end : List ℕ → Place → Bool
 leads_to_end [] place = may_end place
 leads_to_end (byte ∷ rest) place = option_map_or (leads_to_end rest) (next_place place byte) false
+
+-- whether an arc ends before these bytes
+abbrev pub ends_arc : List ℕ → Bool
+ends_arc [] = true
+ends_arc (byte ∷ rest) = byte == 46

@@ -1,11 +1,11 @@
 -- How a path is read: byte by byte, from state to state.
-use Rattle.std.specs.Prelude.{ℕ, ◌==◌, ◌||◌, Bool, true, false, if◌then◌else◌, Option, Some, None, List, [], ◌∷◌}
+use Rattle.std.specs.Prelude.{ℕ, ◌+◌, ◌==◌, ◌||◌, Bool, true, false, if◌then◌else◌, Option, Some, None, List, [], ◌∷◌}
 use Rattle.std.specs.Option.{option_map_or}
 use Rattle.al_base.specs.Identifiers.{begins_identifier, continues_identifier}
 use Rattle.al_ids.specs.declared.path.Part.{Part}
 use Rattle.al_ids.specs.declared.path.Part.TheVariants as part
 use Rattle.al_ids.specs.declared.path.State.{State}
-use Rattle.al_ids.specs.declared.path.State.TheVariants.{Start, Root, Module, Slash, Open, Word, Colon, Name, Dot, Equals, Value, Quoted, Closed}
+use Rattle.al_ids.specs.declared.path.State.TheVariants.{Start, Begin, Root, Module, Slash, Open, Word, Colon, Name, Dot, Equals, Value, Quoted, Closed}
 
 abbrev pub when : Bool → State → Option State
 when holds state = if holds then Some state else None
@@ -20,6 +20,7 @@ after_name part.Predicate byte = when (byte == 61) Equals
 
 abbrev pub next_state : State → ℕ → Option State
 next_state Start byte = when (byte == 47) Root
+next_state Begin byte = when (byte == 47) Slash
 next_state Root byte = when (begins_identifier byte) Module
 next_state Module byte = if byte == 58 then Some (Colon part.Step) else when (continues_identifier byte) Module
 next_state Slash byte = when (begins_identifier byte) (Word part.Step)
@@ -44,3 +45,8 @@ may_end state = false
 abbrev pub leads_to_end : List ℕ → State → Bool
 leads_to_end [] state = may_end state
 leads_to_end (byte ∷ rest) state = option_map_or (leads_to_end rest) (next_state state byte) false
+
+-- where the text stops leading to an end: at a byte, or at its length; its first byte has this place
+abbrev pub stop_from : ℕ → List ℕ → State → Option ℕ
+stop_from place [] state = if may_end state then None else Some place
+stop_from place (byte ∷ rest) state = option_map_or (stop_from (place + 1) rest) (next_state state byte) (Some place)

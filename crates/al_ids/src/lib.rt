@@ -1,12 +1,19 @@
-//! What names an alarm: its resource, its type and a qualifier.
+//! What names an alarm: its resource, its type and a qualifier; and what resources are matched by.
 #![tactic(auto)]
 
 pub mod key;
+#[cfg(test)]
+mod match_tests;
 mod oid;
 mod path;
 pub mod resource;
+pub mod resource_match;
+mod steps;
 #[cfg(test)]
 mod tests;
+mod utf8;
+mod xpath;
 
 pub use key::AlarmKey;
 pub use resource::{Kind, MAX_RESOURCE, Resource, ResourceFault};
+pub use resource_match::{MatchFault, ResourceMatch};

@@ -1,5 +1,6 @@
+ghost use Rattle.al_ids.specs.Matches.{TakesOid};
 ghost use Rattle.al_ids.specs.Oids.{IsOid};
-ghost use Rattle.al_ids.specs.OidReading.{leads_to_end, may_end as may_end_of, next_place, when};
+ghost use Rattle.al_ids.specs.OidReading.{ends_arc as ends_arc_of, leads_to_end, may_end as may_end_of, next_place, when};
 ghost use Rattle.std.specs.Prelude.{◌≡◌, ◌↔◌, IsTrue};
 
 /// Where the reader of an object identifier stands.
@@ -88,4 +89,26 @@ pub fn is_oid(text: &[u8]) -> bool
     ensures { IsTrue result ↔ IsOid text.now }
 {
     Place::Start.reaches_end(text)
+}
+
+/// Whether the arcs of the one object identifier are a front of those of the other.
+pub fn is_front(front: &[u8], whole: &[u8]) -> bool
+    requires front { IsOid front.now }
+    requires whole { IsOid whole.now }
+    ensures { IsTrue result ↔ TakesOid front.now whole.now }
+{
+    match whole.strip_prefix(front) {
+        Some(rest) => ends_arc(rest),
+        None => false,
+    }
+}
+
+/// Whether an arc ends before these bytes.
+fn ends_arc(rest: &[u8]) -> bool
+    ensures { result ≡ ends_arc_of rest.now }
+{
+    match rest.first() {
+        Some(byte) => *byte == b'.',
+        None => true,
+    }
 }

@@ -1,5 +1,6 @@
 ghost use Rattle.al_ids.specs.Paths.{IsPath};
-ghost use Rattle.al_ids.specs.PathReading.{after_name as after_name_of, after_step as after_step_of, leads_to_end, may_end as may_end_of, next_state, when};
+ghost use Rattle.al_ids.specs.PathReading.{after_name as after_name_of, after_step as after_step_of, leads_to_end, may_end as may_end_of, next_state, stop_from, when};
+ghost use Rattle.al_ids.specs.declared.path.State.TheVariants.{Begin};
 ghost use Rattle.std.specs.Prelude.{◌≡◌, ◌↔◌, IsTrue};
 
 use al_base::type_id::{begins_identifier, continues_identifier};
@@ -14,8 +15,10 @@ enum Part {
 /// Where the reader of a path stands.
 #[derive(Clone, Copy)]
 enum State {
-    /// Before the path.
+    /// Before a path whose first step says its module.
     Start,
+    /// Before a path whose steps need not say their modules.
+    Begin,
     /// Behind its first slash, where a module must follow.
     Root,
     /// In the module of the first step.
@@ -49,6 +52,7 @@ impl State {
     {
         match self {
             State::Start => when(byte == b'/', State::Root),
+            State::Begin => when(byte == b'/', State::Slash),
             State::Root => when(begins_identifier(byte), State::Module),
             State::Module => match byte {
                 b':' => Some(State::Colon(Part::Step)),
@@ -113,6 +117,24 @@ impl State {
         }
         state.may_end()
     }
+
+    /// Where the text leaves what leads from here to the end of a path: at a byte, or at its length where it ends too soon.
+    fn stop(self, text: &[u8]) -> Option<usize>
+        ensures { result ≡ stop_from 0 text.now self }
+    {
+        let mut state = self;
+        for (place, byte) in text.iter().enumerate() {
+            match state.next(*byte) {
+                Some(next) => state = next,
+                None => return Some(place),
+            }
+        }
+        if state.may_end() {
+            None
+        } else {
+            Some(text.len())
+        }
+    }
 }
 
 fn when(holds: bool, state: State) -> Option<State>
@@ -144,4 +166,12 @@ pub fn is_path(text: &[u8]) -> bool
     ensures { IsTrue result ↔ IsPath text.now }
 {
     State::Start.reaches_end(text)
+}
+
+/// The first byte that no path has there, or the length where the text ends too soon; None where it is a path, whose steps
+/// need not say their modules. Bytes that aren't UTF-8 are taken inside quotes.
+pub fn path_stop(text: &[u8]) -> Option<usize>
+    ensures { result ≡ stop_from 0 text.now Begin }
+{
+    State::Begin.stop(text)
 }
