@@ -1,6 +1,6 @@
 use Rattle.std.proofs.Common.{◌≡◌, Bool, cond, not, List, length, refl, sym, ◌∙◌, ap, subst, arith}
 use Rattle.std.specs.List.{insert}
-use Rattle.al_shelf.specs.Places.{AreShelves, without}
+use Rattle.al_shelf.specs.Places.{AreShelves}
 use Rattle.al_shelf.specs.declared.fault.ShelfFault.TheVariants.{TooMany}
 use Rattle.al_shelf.specs.declared.shelf.Shelf.{Shelf}
 use Rattle.al_shelf.proofs.Puts.{without_none, put_sound, ok_err, memory_too_many}

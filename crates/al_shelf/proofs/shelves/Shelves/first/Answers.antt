@@ -1,7 +1,6 @@
-use Rattle.std.proofs.Common.{◌≡◌, ℕ, ◌<◌, ◌≤◌, List, length, refl, arith, subst, ◌∙◌}
+use Rattle.std.proofs.Common.{◌≡◌, ℕ, ◌<◌, List, length, refl, arith, subst, ◌∙◌}
 use Rattle.std.proofs.lemmas.Option.{slice_get_read}
-use Rattle.std.specs.Prelude.{Some, slice_get}
-use Rattle.al_shelf.specs.Takes.{Takes, TakesAt}
+use Rattle.al_shelf.specs.Takes.{TakesAt}
 use Rattle.al_shelf.specs.declared.shelf.Shelf.{Shelf}
 use Rattle.al_shelf.proofs.Takings.{none_to_next, none_at_all}
 use Rattle.al_shelf.proofs.shelves.Shelves.first.Goals as goal

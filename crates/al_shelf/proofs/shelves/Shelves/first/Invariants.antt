@@ -1,4 +1,4 @@
-use Rattle.std.proofs.Common.{◌≡◌, ℕ, ◌<◌}
+use Rattle.std.proofs.Common.{ℕ, ◌<◌}
 use Rattle.al_shelf.specs.Takes.{TakesAt}
 use Rattle.al_shelf.proofs.shelves.Shelves.first.Given as goal
 

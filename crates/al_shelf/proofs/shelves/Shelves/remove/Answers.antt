@@ -1,9 +1,8 @@
-use Rattle.std.proofs.Common.{◌≡◌, refl, sym, ◌∙◌, ap, subst, get_or}
+use Rattle.std.proofs.Common.{refl, sym, ◌∙◌, ap, get_or}
 use Rattle.std.specs.List.{remove}
-use Rattle.std.specs.Prelude.{List, Option, None, Some}
-use Rattle.al_shelf.specs.Places.{place_of, without, shelf_of}
+use Rattle.std.specs.Prelude.{List, Some}
 use Rattle.al_shelf.specs.declared.shelf.Shelf.{Shelf}
-use Rattle.al_shelf.proofs.Puts.{without_none, without_one, shelf_of_none, shelf_of_one, none_named_so, one_named_so, remove_sound}
+use Rattle.al_shelf.proofs.Puts.{without_none, without_one, shelf_of_none, shelf_of_one, none_named_so, one_named_so}
 use Rattle.al_shelf.proofs.shelves.Shelves.remove.Goals as goal
 
 pub returns-in_default-clause-answer : goal.returns-in_default-clause-answer

@@ -1,6 +1,6 @@
-use Rattle.std.proofs.Common.{◌≡◌, ◌≤◌, Bool, cond, List, length, refl, sym, ◌∙◌, ap, subst, arith}
+use Rattle.std.proofs.Common.{◌≡◌, Bool, cond, List, length, sym, ◌∙◌, ap, subst, arith}
 use Rattle.std.specs.List.{insert, remove}
-use Rattle.al_shelf.specs.Places.{AreShelves, without}
+use Rattle.al_shelf.specs.Places.{AreShelves}
 use Rattle.al_shelf.specs.declared.shelf.Shelf.{Shelf}
 use Rattle.al_shelf.proofs.Puts.{count_of_others, without_one, put_sound}
 use Rattle.al_shelf.proofs.shelves.Shelves.replace.Goals as goal
