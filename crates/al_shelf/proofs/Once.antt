@@ -31,7 +31,7 @@ one_left_out p (x ∷ xs) (suc i) d once lt passes =
     let rest : kept ≡ remove xs i = one_left_out p xs i d (λ k j e below within. once (suc k) (suc j) e (omega arith) (omega arith)) (omega arith) passes in
     ap (λ b. cond (not b) (x ∷ kept) kept) here ∙ ap (λ l. x ∷ l) rest
 
-pub all_inserted : {X : Type 0} (P : X → Type 0) (xs : List X) (n : ℕ) (y : X) → All P xs → P y → All P (insert xs n y)
+all_inserted : {X : Type 0} (P : X → Type 0) (xs : List X) (n : ℕ) (y : X) → All P xs → P y → All P (insert xs n y)
 all_inserted P xs n y each new =
     All-append P (take n xs) (y ∷ drop n xs) (All-take P n xs each) (All-cons P y (drop n xs) new (All-drop P n xs each))
 

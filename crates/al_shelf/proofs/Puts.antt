@@ -1,5 +1,5 @@
 -- What putting a shelf and leaving one out makes of a list of shelves.
-use Rattle.std.proofs.Common.{◌≡◌, ◌≢◌, ℕ, ◌+◌, ◌<◌, ◌≤◌, Bool, true, false, not, cond, ltb, List, [], length, get_or, refl, sym, ◌∙◌, ap, subst, arith}
+use Rattle.std.proofs.Common.{◌≡◌, ◌≢◌, ℕ, ◌+◌, ◌<◌, ◌≤◌, Bool, true, false, not, cond, ltb, List, [], length, get_or, refl, sym, ◌∙◌, ap, arith}
 use Rattle.std.proofs.lemmas.Bool.{false≢true, ltb-false, not-true}
 use Rattle.std.proofs.lemmas.List.Edits.{length-insert, length-remove}
 use Rattle.std.proofs.lemmas.List.Elements.{filter_passes}
@@ -24,13 +24,13 @@ use Rattle.al_shelf.proofs.Once.{PassesOnce, all_others, one_left_out, pairs_ins
 bare : Shelf
 bare = record { name = []; resources = []; types = []; description = None }
 
-pub same_name : (name : List ℕ) (shelf : Shelf) → is_named name shelf ≡ true → shelf.name ≡ name
+same_name : (name : List ℕ) (shelf : Shelf) → is_named name shelf ≡ true → shelf.name ≡ name
 same_name name shelf = (bytes_decides shelf.name name).0
 
-pub other_name : (name : List ℕ) (shelf : Shelf) → is_named name shelf ≡ false → shelf.name ≢ name
+other_name : (name : List ℕ) (shelf : Shelf) → is_named name shelf ≡ false → shelf.name ≢ name
 other_name name shelf differs same = false≢true (sym differs ∙ (bytes_decides shelf.name name).1 same)
 
-pub named_once : (name : List ℕ) (shelves : List Shelf) → AreShelves shelves → PassesOnce (is_named name) shelves
+named_once : (name : List ℕ) (shelves : List Shelf) → AreShelves shelves → PassesOnce (is_named name) shelves
 named_once name shelves sound i j d below within first second =
     sound.names i j d below within (same_name name (get_or shelves i d) first ∙ sym (same_name name (get_or shelves j d) second))
 
@@ -39,7 +39,7 @@ none_within : {A : Type 0} (b : Bool) (x : A) → cond b (Some x) None ≡ None 
 none_within true x e = absurd (cc)
 none_within false x e = refl
 
-pub none_named : (name : List ℕ) (shelves : List Shelf) → place_of name shelves ≡ None → All (λ shelf. is_named name shelf ≡ false) shelves
+none_named : (name : List ℕ) (shelves : List Shelf) → place_of name shelves ≡ None → All (λ shelf. is_named name shelf ≡ false) shelves
 none_named name shelves none k d lt =
     let first = position_or_len (is_named name) shelves in
     let past = ltb-false first (length shelves) (none_within (ltb first (length shelves)) first none) in
@@ -73,7 +73,7 @@ shelf_of_none name shelves none =
     let past = ltb-false first (length shelves) (none_within (ltb first (length shelves)) first none) in
     find_at (is_named name) shelves ∙ slice_get_past shelves first past
 
-pub others_differ : (name : List ℕ) (shelves : List Shelf) → All (λ shelf. shelf.name ≢ name) (without name shelves)
+others_differ : (name : List ℕ) (shelves : List Shelf) → All (λ shelf. shelf.name ≢ name) (without name shelves)
 others_differ name shelves k d lt =
     other_name name (get_or (without name shelves) k d) (not-true _ (filter_passes (λ shelf. not (is_named name shelf)) shelves k d lt))
 
@@ -87,16 +87,7 @@ put_sound shelf shelves place sound within room =
       names = pairs_inserted (λ a b. a.name ≢ b.name) (λ a b differ same. differ (sym same)) others place shelf within apart (others_differ shelf.name shelves);
     }
 
-pub remove_sound : (name : List ℕ) (shelves : List Shelf) (place : ℕ) → AreShelves shelves → place_of name shelves ≡ Some place → AreShelves (remove shelves place)
-remove_sound name shelves place sound found =
-    let e = without_one name shelves place sound found in
-    let left = count_of_others name shelves place sound found in
-    let few : length (without name shelves) ≤ 64 = omega (arith, left, sound.few) in
-    let names : AllPairs (λ a b. a.name ≢ b.name) (without name shelves) = AllPairs-filter (λ a b. a.name ≢ b.name) (λ s. not (is_named name s)) shelves sound.names in
-    let P : List Shelf → Type 0 = AreShelves in
-    subst P e (record { few = few; names = names })
-
-pub found_within : (name : List ℕ) (shelves : List Shelf) (place : ℕ) → place_of name shelves ≡ Some place → place < length shelves
+found_within : (name : List ℕ) (shelves : List Shelf) (place : ℕ) → place_of name shelves ≡ Some place → place < length shelves
 found_within name shelves place found = (position-Some (is_named name) shelves place bare found).0
 
 pub none_named_so : (name : List ℕ) (shelves : List Shelf) → place_of name shelves ≡ None → All (λ shelf. shelf.name ≢ name) shelves
