@@ -1,0 +1,5 @@
+use Rattle.std.proofs.Common.{◌≡◌, take}
+use Rattle.al_shelf.proofs.shelves.ShelvesCopied.copy.Given as goal
+
+abbrev pub invariant-loop-shelf : goal.invariant-loop-shelf
+invariant-loop-shelf l = l.shelves.items ≡ take l.shelf-index l.shelf-items

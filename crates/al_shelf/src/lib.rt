@@ -1,0 +1,14 @@
+//! Shelves: which alarms the operator wants out of the list, in order.
+#![tactic(auto)]
+
+pub mod fault;
+pub mod shelf;
+pub mod shelves;
+pub mod spot;
+#[cfg(test)]
+mod tests;
+
+pub use fault::ShelfFault;
+pub use shelf::{Shelf, TypeMatch};
+pub use shelves::{MAX_SHELVES, Shelves};
+pub use spot::{Placed, Spot};
