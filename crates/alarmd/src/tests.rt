@@ -141,8 +141,10 @@ fn refuses_with_the_reason(rt: HostRuntime) -> Result<(), Fail> {
 #[test]
 fn leaves_the_body_out_for_head(rt: HostRuntime) -> Result<(), Fail> {
     let alloc = rt.alloc();
-    let input = "HEAD /x HTTP/1.1\r\n\r\nHEAD /restconf/data/ietf-alarms:alarms/alarm-list/number-of-alarms HTTP/1.1\r\n\r\n";
-    let fields = "HTTP/1.1 404 Not Found\r\nAlarm-Place: 0\r\nContent-Length: 121\r\nContent-Type: application/yang-data+json\r\n\r\n";
+    let input =
+        "HEAD /x HTTP/1.1\r\n\r\nHEAD /restconf/data/ietf-alarms:alarms/alarm-list/number-of-alarms HTTP/1.1\r\n\r\n";
+    let fields =
+        "HTTP/1.1 404 Not Found\r\nAlarm-Place: 0\r\nContent-Length: 121\r\nContent-Type: application/yang-data+json\r\n\r\n";
     let output = format!(in alloc; "{fields}{fields}")?;
     expect(&rt, alloc, input, 0, output.as_str())
 }
