@@ -1,18 +1,18 @@
 -- What the office keeps, as a history grows.
 use Rattle.std.proofs.Common.{◌≡◌, ℕ, ◌<◌, ◌≤◌, List, [], ◌∷◌, ◌++◌, ap, sym, ◌∙◌, subst, arith, lit≤}
-use Rattle.al_model.specs.Alarms.{IsInOrder}
-use Rattle.al_model.specs.Decision.{decision_of, entry_time}
-use Rattle.al_model.specs.History.{replay, Fits}
-use Rattle.al_model.specs.Limits.{last_stamp, IsRequestWithin}
-use Rattle.al_model.specs.State.{State, start, alarms_after, step}
-use Rattle.al_model.specs.declared.decision.Decision.TheVariants.{Change}
-use Rattle.al_model.specs.declared.decision.Reply.{Reply}
-use Rattle.al_model.specs.declared.entry.Entry.{Entry}
-use Rattle.al_model.specs.declared.event.Event.{Event}
-use Rattle.al_model.specs.declared.request.Request.{Request}
-use Rattle.al_model.proofs.Deciding.{decided_fits, decided_early}
-use Rattle.al_model.proofs.Histories.{in_order_from, time_from, legal_push, replay-push}
-use Rattle.al_model.proofs.Placing.{in_order_none}
+use Rattle.al_report.specs.Alarms.{IsInOrder}
+use Rattle.al_report.specs.Decision.{decision_of, entry_time}
+use Rattle.al_report.specs.History.{replay, Fits}
+use Rattle.al_report.specs.Limits.{last_stamp, IsRequestWithin}
+use Rattle.al_report.specs.State.{State, start, alarms_after, step}
+use Rattle.al_report.specs.declared.decision.Decision.TheVariants.{Change}
+use Rattle.al_report.specs.declared.decision.Reply.{Reply}
+use Rattle.al_report.specs.declared.entry.Entry.{Entry}
+use Rattle.al_report.specs.declared.event.Event.{Event}
+use Rattle.al_report.specs.declared.request.Request.{Request}
+use Rattle.al_report.proofs.Deciding.{decided_fits, decided_early}
+use Rattle.al_report.proofs.Histories.{in_order_from, time_from, legal_push, replay-push}
+use Rattle.al_report.proofs.Placing.{in_order_none}
 use Rattle.al_office.specs.Office.{IsKept}
 
 -- the alarms stand in order

@@ -11,7 +11,7 @@ use Rattle.std.proofs.lemmas.List.Elements.{All-from_all_within, All-from_recurs
 use Rattle.std.proofs.lemmas.Map.Keys.{Less-from_sorted}
 use Rattle.std.proofs.lemmas.Map.Lookups.{exact_bytes}
 use Rattle.al_base.specs.declared.text.Text.{Text}
-use Rattle.al_model.specs.Alarms.{AlarmState, resource_cmp, alarm_of, below, above, IsInOrder}
+use Rattle.al_report.specs.Alarms.{AlarmState, resource_cmp, alarm_of, below, above, IsInOrder}
 use Rattle.al_office.specs.Tables.{IsPlaceOf}
 
 -- the alarms below r, then a, then those above r

@@ -5,10 +5,10 @@ use Rattle.std.specs.Option.{IfSome}
 use Rattle.std.proofs.lemmas.Option.{slice_get_read}
 use Rattle.al_base.specs.declared.severity.Status.{Status}
 use Rattle.al_base.specs.declared.text.Text.{Text}
-use Rattle.al_model.specs.Alarms.{AlarmState, alarm_of, reported}
-use Rattle.al_model.specs.State.{with_change}
-use Rattle.al_model.specs.declared.event.Event.TheVariants as events
-use Rattle.al_model.proofs.Reporting.{alarm_of_resource, makes_at}
+use Rattle.al_report.specs.Alarms.{AlarmState, alarm_of, reported}
+use Rattle.al_report.specs.State.{with_change}
+use Rattle.al_report.specs.declared.event.Event.TheVariants as events
+use Rattle.al_report.proofs.Reporting.{alarm_of_resource, makes_at}
 use Rattle.al_office.specs.Tables.{IsKnownAt, IsPreparedFor}
 use Rattle.al_office.specs.View.{TablesView}
 use Rattle.al_office.specs.declared.tables.Prepared.TheVariants.{Replace}

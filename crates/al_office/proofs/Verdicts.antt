@@ -1,14 +1,14 @@
 -- A decision, by its two tests.
 use Rattle.std.proofs.Common.{◌≡◌, ◌==◌, ℕ, true, false, refl, ap, ◌∙◌}
-use Rattle.al_model.specs.Decision.{changes, decision_on, decision_of, event_of}
-use Rattle.al_model.specs.Limits.{last_stamp}
-use Rattle.al_model.specs.State.{State}
-use Rattle.al_model.specs.declared.decision.Decision.TheVariants.{Refuse, Same, Change}
-use Rattle.al_model.specs.declared.decision.Refusal.TheVariants.{ClockEnd}
-use Rattle.al_model.specs.declared.decision.Reply.TheVariants.{Done}
-use Rattle.al_model.specs.declared.event.Event.{Event}
-use Rattle.al_model.specs.declared.event.Event.TheVariants as events
-use Rattle.al_model.specs.declared.request.Request.{Request}
+use Rattle.al_report.specs.Decision.{changes, decision_on, decision_of, event_of}
+use Rattle.al_report.specs.Limits.{last_stamp}
+use Rattle.al_report.specs.State.{State}
+use Rattle.al_report.specs.declared.decision.Decision.TheVariants.{Refuse, Same, Change}
+use Rattle.al_report.specs.declared.decision.Refusal.TheVariants.{ClockEnd}
+use Rattle.al_report.specs.declared.decision.Reply.TheVariants.{Done}
+use Rattle.al_report.specs.declared.event.Event.{Event}
+use Rattle.al_report.specs.declared.event.Event.TheVariants as events
+use Rattle.al_report.specs.declared.request.Request.{Request}
 
 same_on : (s : State) (event : Event) → changes s event ≡ false → Same Done ≡ decision_on s event
 same_on s (events.Report r status t) h = rw h refl

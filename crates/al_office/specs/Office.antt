@@ -1,15 +1,15 @@
 -- The office, and what it answers.
 use Rattle.std.specs.Prelude.{◌≡◌, ◌⊎◌, ℕ, List, [], ◌∷◌, ◌++◌, Result, Ok, Err}
-use Rattle.al_model.specs.Decision.{decision_of, entry_of}
-use Rattle.al_model.specs.History.{replay, IsLegal}
-use Rattle.al_model.specs.State.{State}
-use Rattle.al_model.specs.declared.decision.Decision.{Decision}
-use Rattle.al_model.specs.declared.decision.Decision.TheVariants.{Refuse, Same, Change}
-use Rattle.al_model.specs.declared.decision.Refusal.{Refusal}
-use Rattle.al_model.specs.declared.decision.Refusal.TheVariants.{Memory}
-use Rattle.al_model.specs.declared.decision.Reply.{Reply}
-use Rattle.al_model.specs.declared.entry.Entry.{Entry}
-use Rattle.al_model.specs.declared.request.Request.{Request}
+use Rattle.al_report.specs.Decision.{decision_of, entry_of}
+use Rattle.al_report.specs.History.{replay, IsLegal}
+use Rattle.al_report.specs.State.{State}
+use Rattle.al_report.specs.declared.decision.Decision.{Decision}
+use Rattle.al_report.specs.declared.decision.Decision.TheVariants.{Refuse, Same, Change}
+use Rattle.al_report.specs.declared.decision.Refusal.{Refusal}
+use Rattle.al_report.specs.declared.decision.Refusal.TheVariants.{Memory}
+use Rattle.al_report.specs.declared.decision.Reply.{Reply}
+use Rattle.al_report.specs.declared.entry.Entry.{Entry}
+use Rattle.al_report.specs.declared.request.Request.{Request}
 
 -- the history that the office keeps
 pub record OfficeView : Type 0 where

@@ -1,9 +1,9 @@
 -- The tables: the state as they hold it, and how a change of it is prepared.
 use Rattle.std.specs.Prelude.{◌≡◌, ℕ, ◌<◌, ◌≤◌, List, length, None, Result, Ok, Err, slice_get, slice_set, insert}
 use Rattle.al_base.specs.declared.text.Text.{Text}
-use Rattle.al_model.specs.Alarms.{AlarmState, alarm_of, put}
-use Rattle.al_model.specs.State.{alarms_after}
-use Rattle.al_model.specs.declared.event.Event.{Event}
+use Rattle.al_report.specs.Alarms.{AlarmState, alarm_of, put}
+use Rattle.al_report.specs.State.{alarms_after}
+use Rattle.al_report.specs.declared.event.Event.{Event}
 use Rattle.al_office.specs.declared.tables.Prepared.{Prepared}
 use Rattle.al_office.specs.declared.tables.Prepared.TheVariants.{Replace, Insert}
 use Rattle.al_office.specs.View.{TablesView}

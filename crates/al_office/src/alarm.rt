@@ -1,5 +1,5 @@
 ghost use Rattle.std.specs.Prelude.{◌≡◌, Some, IfOk, IsTrue, is_some};
-ghost use Rattle.al_model.specs.Alarms.{raised, reported, resource_cmp};
+ghost use Rattle.al_report.specs.Alarms.{raised, reported, resource_cmp};
 
 use al_base::{Copied, Severity, Status, Text};
 use std::alloc::{AllocError, Global};
@@ -16,7 +16,7 @@ pub struct Alarm {
 }
 
 impl Model for Alarm {
-    ghost use Rattle.al_model.specs.Alarms.{AlarmState};
+    ghost use Rattle.al_report.specs.Alarms.{AlarmState};
 
     ghost Value = { AlarmState };
 

@@ -1,6 +1,6 @@
 use crate::tables::Tables;
 use al_base::Stamp;
-use al_model::{Decision, Entry, Kept, Refusal, Reply, Request};
+use al_report::{Decision, Entry, Kept, Refusal, Reply, Request};
 use std::alloc::{AllocError, Global};
 use std::marker::Model;
 
@@ -24,8 +24,8 @@ impl Model for Office {
 
 impl Office {
     ghost use Rattle.std.specs.Prelude.{◌≡◌, ◌↔◌, [], ◌∷◌, ◌++◌, length, slice_get, option_copied, is_ok, IfOk, IsTrue, if◌then◌else◌};
-    ghost use Rattle.al_model.specs.History.{replay, Fits, IsLegal};
-    ghost use Rattle.al_model.specs.Limits.{IsRequestWithin};
+    ghost use Rattle.al_report.specs.History.{replay, Fits, IsLegal};
+    ghost use Rattle.al_report.specs.Limits.{IsRequestWithin};
     ghost use Rattle.al_office.specs.Office.{IsAnswer};
 
     /// An office whose history is empty.

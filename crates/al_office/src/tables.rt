@@ -1,13 +1,13 @@
 ghost use Rattle.std.specs.Prelude.{◌≡◌, ◌<◌, ◌≤◌, length, IfOk, IsTrue};
-ghost use Rattle.al_model.specs.Alarms.{IsInOrder};
-ghost use Rattle.al_model.specs.Decision.{changes, decision_of, entry_time};
-ghost use Rattle.al_model.specs.Limits.{last_stamp};
-ghost use Rattle.al_model.specs.State.{start};
+ghost use Rattle.al_report.specs.Alarms.{IsInOrder};
+ghost use Rattle.al_report.specs.Decision.{changes, decision_of, entry_time};
+ghost use Rattle.al_report.specs.Limits.{last_stamp};
+ghost use Rattle.al_report.specs.State.{start};
 ghost use Rattle.al_office.specs.Tables.{HasRoom, IsPlaceOf, IsPreparedFor, with_prepared};
 
 use crate::alarm::Alarm;
 use al_base::{Stamp, Status, Text};
-use al_model::{Decision, Event, Refusal, Reply, Request};
+use al_report::{Decision, Event, Refusal, Reply, Request};
 use std::alloc::{AllocError, Global};
 use std::marker::Model;
 

@@ -1,9 +1,9 @@
 ghost use Rattle.std.specs.Prelude.{◌≡◌, ◌<◌, ◌≤◌, length, IfOk};
-ghost use Rattle.al_model.specs.Limits.{IsRequestWithin};
+ghost use Rattle.al_report.specs.Limits.{IsRequestWithin};
 
 use crate::Office;
 use al_base::{Severity, Stamp, Status, Text, TextFault};
-use al_model::{Event, Kept, Refusal, Reply, Request};
+use al_report::{Event, Kept, Refusal, Reply, Request};
 use std::alloc::Global;
 use std::test::Fail;
 

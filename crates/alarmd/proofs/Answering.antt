@@ -6,14 +6,14 @@ use Rattle.std.proofs.lemmas.List.Elements.{All-from_recursion}
 use Rattle.al_http.specs.Requests.{RequestMessage}
 use Rattle.al_http.specs.Responses.{refusal, bodiless}
 use Rattle.al_http.specs.declared.response.Response.{Response}
-use Rattle.al_model.specs.Decision.{decision_of, entry_of}
-use Rattle.al_model.specs.History.{replay}
-use Rattle.al_model.specs.declared.decision.Decision.{Decision}
-use Rattle.al_model.specs.declared.decision.Decision.TheVariants.{Refuse, Same, Change}
-use Rattle.al_model.specs.declared.decision.Refusal.TheVariants.{ClockEnd, Memory}
-use Rattle.al_model.specs.declared.decision.Reply.{Reply}
-use Rattle.al_model.specs.declared.entry.Entry.{Entry}
-use Rattle.al_model.specs.declared.request.Request.{Request}
+use Rattle.al_report.specs.Decision.{decision_of, entry_of}
+use Rattle.al_report.specs.History.{replay}
+use Rattle.al_report.specs.declared.decision.Decision.{Decision}
+use Rattle.al_report.specs.declared.decision.Decision.TheVariants.{Refuse, Same, Change}
+use Rattle.al_report.specs.declared.decision.Refusal.TheVariants.{ClockEnd, Memory}
+use Rattle.al_report.specs.declared.decision.Reply.{Reply}
+use Rattle.al_report.specs.declared.entry.Entry.{Entry}
+use Rattle.al_report.specs.declared.request.Request.{Request}
 use Rattle.al_office.specs.Office.{IsAsDecided, IsAnswer as IsOfficeAnswer}
 use Rattle.alarmd.specs.Exchanges.{Answered}
 use Rattle.alarmd.specs.Machine.{AsksCount, BringsReport, AnswersReport, Carries, IsAnswer, RefusesPath, clock_at_its_end, count_response}

@@ -11,8 +11,8 @@ use Rattle.al_base.specs.Names.{status_name}
 use Rattle.al_base.specs.declared.severity.Severity.TheVariants.{Indeterminate, Warning, Minor, Major, Critical}
 use Rattle.al_base.specs.declared.severity.Status.{Status}
 use Rattle.al_base.specs.declared.severity.Status.TheVariants.{Cleared, Active}
-use Rattle.al_model.specs.declared.request.Request.{Request}
-use Rattle.al_model.specs.declared.request.Request.TheVariants.{Report}
+use Rattle.al_report.specs.declared.request.Request.{Request}
+use Rattle.al_report.specs.declared.request.Request.TheVariants.{Report}
 use Rattle.alarmd.specs.Reports.{IsPlain, IsPlainResource, IsPlainText, IsReport, IsMadeOf, HasNoQuote, Spells, status_text, resource_text}
 use Rattle.alarmd.proofs.Cutting.{one_cut}
 

@@ -17,7 +17,7 @@ use Rattle.al_http.specs.Requests.{RequestMessage}
 use Rattle.al_http.specs.Responses.{response_text, framing_response}
 use Rattle.al_http.specs.Streams.{HasGiven, request_limit}
 use Rattle.al_http.specs.declared.response.Response.{Response}
-use Rattle.al_model.specs.declared.entry.Entry.{Entry}
+use Rattle.al_report.specs.declared.entry.Entry.{Entry}
 use Rattle.alarmd.specs.Exchanges.{Turn, IsTurn, IsExchange}
 use Rattle.alarmd.specs.Conversations.{texts_from, texts_of, Gave, GaveKnown, BeginsWith, IsConversation, TakesTurn}
 

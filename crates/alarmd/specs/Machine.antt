@@ -1,12 +1,12 @@
 -- What the server answers: the machine of its resources, over a history.
 use Rattle.std.specs.Prelude.{◌≡◌, ℕ, ◌≤◌, Some, None, true, false, List, [], ◌∷◌, ◌++◌, length, All, codes, decimal}
-use Rattle.al_model.specs.Decision.{decision_of, entry_of}
-use Rattle.al_model.specs.History.{replay}
-use Rattle.al_model.specs.declared.decision.Decision.{Decision}
-use Rattle.al_model.specs.declared.decision.Decision.TheVariants.{Refuse, Same, Change}
-use Rattle.al_model.specs.declared.decision.Refusal.TheVariants.{ClockEnd, Memory}
-use Rattle.al_model.specs.declared.entry.Entry.{Entry}
-use Rattle.al_model.specs.declared.request.Request.{Request}
+use Rattle.al_report.specs.Decision.{decision_of, entry_of}
+use Rattle.al_report.specs.History.{replay}
+use Rattle.al_report.specs.declared.decision.Decision.{Decision}
+use Rattle.al_report.specs.declared.decision.Decision.TheVariants.{Refuse, Same, Change}
+use Rattle.al_report.specs.declared.decision.Refusal.TheVariants.{ClockEnd, Memory}
+use Rattle.al_report.specs.declared.entry.Entry.{Entry}
+use Rattle.al_report.specs.declared.request.Request.{Request}
 use Rattle.al_http.specs.Requests.{RequestMessage, path_of, query_of}
 use Rattle.al_http.specs.Responses.{refusal, bodiless}
 use Rattle.al_http.specs.declared.response.Content.TheVariants.{Tree}

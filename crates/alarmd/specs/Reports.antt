@@ -2,8 +2,8 @@
 use Rattle.std.specs.Prelude.{◌≡◌, ℕ, ◌≤◌, List, ◌++◌, Some, slice_get, All, length, codes, ◌≢◌}
 use Rattle.al_base.specs.Names.{status_name}
 use Rattle.al_base.specs.declared.severity.Status.{Status}
-use Rattle.al_model.specs.declared.request.Request.{Request}
-use Rattle.al_model.specs.declared.request.Request.TheVariants.{Report}
+use Rattle.al_report.specs.declared.request.Request.{Request}
+use Rattle.al_report.specs.declared.request.Request.TheVariants.{Report}
 
 -- a byte that stands for itself in a JSON text: printable ASCII but for the quote and the backslash
 pub record IsPlain (byte : ℕ) : Type 0 where

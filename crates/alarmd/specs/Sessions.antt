@@ -2,7 +2,7 @@
 use Rattle.std.specs.Prelude.{◌≡◌, ◌⊎◌, ℕ, Option, List, []}
 use Rattle.std.specs.Io.KnownBytes.{Appends}
 use Rattle.al_base.specs.Readings.{Readings}
-use Rattle.al_model.specs.declared.entry.Entry.{Entry}
+use Rattle.al_report.specs.declared.entry.Entry.{Entry}
 use Rattle.alarmd.specs.Conversations.{IsConversation}
 use Rattle.al_http.specs.Fronts.{AppendsFront}
 use Rattle.alarmd.specs.Machine.{IsAnswer}

@@ -12,7 +12,7 @@ ghost use Rattle.alarmd.specs.Exchanges.{GivesTurn};
 use crate::service::Service;
 use al_base::{Clock, Sink, Source, Stamp, WriteFault};
 use al_http::{Framer, HttpRequest, Response, Stop, respond};
-use al_model::Kept;
+use al_report::Kept;
 
 /// The most requests of a conversation.
 const REQUEST_LIMIT: u64 = 1_000_000;

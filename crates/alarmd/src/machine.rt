@@ -4,7 +4,7 @@ ghost use Rattle.std.specs.Prelude.{◌≡◌, ◌↔◌, None, Some, IsTrue, If
 ghost use Rattle.al_http.specs.Requests.{path_of, query_of};
 ghost use Rattle.al_http.specs.Responses.{HasText};
 ghost use Rattle.al_http.specs.Shown.{message_of};
-ghost use Rattle.al_model.specs.History.{replay};
+ghost use Rattle.al_report.specs.History.{replay};
 ghost use Rattle.alarmd.specs.Exchanges.{Answered};
 ghost use Rattle.alarmd.specs.Machine.{AsksCount, BringsReport, AnswersReport, IsAnswer, RefusesPath, count_response, count_text};
 
@@ -12,8 +12,8 @@ use crate::report::{ReportFault, read_report};
 use crate::service::Service;
 use al_base::{List, Stamp};
 use al_http::{Content, HttpRequest, Response};
-use al_model::{Kept, Refusal};
 use al_office::Office;
+use al_report::{Kept, Refusal};
 use std::alloc::{AllocError, Global};
 
 /// The number of the refusal `no such path`.

@@ -1,12 +1,12 @@
 //! The reader of reports.
 
 ghost use Rattle.std.specs.Prelude.{◌≡◌, ◌≢◌, ◌↔◌, ◌≤◌, ◌∷◌, ◌++◌, ℕ, List, All, IfOk, IfNone, IfSome, IsTrue, length};
-ghost use Rattle.al_model.specs.Limits.{IsRequestWithin};
-ghost use Rattle.al_model.specs.declared.request.Request.{Request};
+ghost use Rattle.al_report.specs.Limits.{IsRequestWithin};
+ghost use Rattle.al_report.specs.declared.request.Request.{Request};
 ghost use Rattle.alarmd.specs.Reports.{IsReport, IsPlain, HasNoQuote, BeginsWithQuote, IsMadeOf, IsPlainResource, IsPlainText, resource_text, status_text};
 
 use al_base::{Status, Text, TextFault};
-use al_model::Request;
+use al_report::Request;
 use std::alloc::Global;
 
 /// Why a body is no report.

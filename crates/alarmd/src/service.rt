@@ -1,12 +1,12 @@
 use al_base::Stamp;
 use al_http::{HttpRequest, Response};
-use al_model::Kept;
+use al_report::Kept;
 use std::alloc::AllocError;
 
 /// What answers requests over a history.
 pub trait Service<T: Kept>: Drop {
     ghost use Rattle.std.specs.Prelude.{◌≡◌, ℕ, Some, List, length, IfOk, OnErr};
-    ghost use Rattle.al_model.specs.declared.entry.Entry.{Entry};
+    ghost use Rattle.al_report.specs.declared.entry.Entry.{Entry};
     ghost use Rattle.al_http.specs.Requests.{RequestMessage};
     ghost use Rattle.al_http.specs.Responses.{HasText};
     ghost use Rattle.al_http.specs.Shown.{message_of};

@@ -1,6 +1,6 @@
 use Rattle.std.proofs.Common.{rules}
 use Rattle.std.proofs.lemmas.Fn.{always_returns_same}
-use Rattle.al_model.specs.Alarms.{resource_cmp}
+use Rattle.al_report.specs.Alarms.{resource_cmp}
 use Rattle.al_office.proofs.Places.{place_is}
 use Rattle.al_office.proofs.tables.place_of.Goals as goal
 

@@ -1,8 +1,8 @@
 use Rattle.std.proofs.Common.{sym, ◌∙◌, ap, subst}
-use Rattle.al_model.specs.Decision.{decision_of, IsChangeBy}
-use Rattle.al_model.specs.History.{replay, asked_for, Fits}
-use Rattle.al_model.specs.State.{alarms_after}
-use Rattle.al_model.proofs.Deciding.{entry_changes}
+use Rattle.al_report.specs.Decision.{decision_of, IsChangeBy}
+use Rattle.al_report.specs.History.{replay, asked_for, Fits}
+use Rattle.al_report.specs.State.{alarms_after}
+use Rattle.al_report.proofs.Deciding.{entry_changes}
 use Rattle.al_office.specs.Office.{IsKept}
 use Rattle.al_office.proofs.Keeping.{in_order, kept_more}
 use Rattle.al_office.proofs.office.Office.add.Goals as goal

@@ -1,7 +1,7 @@
 use Rattle.std.proofs.Common.{[], ◌∷◌, ◌++◌, sym, subst}
-use Rattle.al_model.specs.History.{replay, Fits, IsLegal}
-use Rattle.al_model.specs.declared.entry.Entry.{Entry}
-use Rattle.al_model.proofs.Histories.{legal_push}
+use Rattle.al_report.specs.History.{replay, Fits, IsLegal}
+use Rattle.al_report.specs.declared.entry.Entry.{Entry}
+use Rattle.al_report.proofs.Histories.{legal_push}
 use Rattle.al_office.proofs.Keeping.{in_order, early, fits}
 use Rattle.al_office.proofs.office.Office.change.Goals as goal
 

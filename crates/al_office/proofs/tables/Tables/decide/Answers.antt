@@ -1,5 +1,5 @@
 use Rattle.std.proofs.Common.{◌≡◌, ◌==◌, true, false, sym, ◌∙◌, subst}
-use Rattle.al_model.specs.Limits.{last_stamp}
+use Rattle.al_report.specs.Limits.{last_stamp}
 use Rattle.al_office.proofs.Verdicts.{same_verdict, refused_verdict, changed_verdict}
 use Rattle.al_office.proofs.tables.Tables.decide.Goals as goal
 

@@ -28,8 +28,8 @@ impl Drop for Request {
 
 impl Request {
     ghost use Rattle.std.specs.Prelude.{◌≡◌};
-    ghost use Rattle.al_model.specs.Decision.{event_of};
-    ghost use Rattle.al_model.specs.State.{State};
+    ghost use Rattle.al_report.specs.Decision.{event_of};
+    ghost use Rattle.al_report.specs.State.{State};
 
     /// The event by which the request is carried out.
     pub fn into_event(self) -> Event

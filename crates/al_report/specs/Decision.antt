@@ -1,18 +1,18 @@
 -- What is to become of a request in a state.
 use Rattle.std.specs.Prelude.{◌≡◌, ℕ, ◌+◌, max, Bool, ◌==◌, is_some, if◌then◌else◌, ⊤}
-use Rattle.al_model.specs.Alarms.{alarm_of, reported}
-use Rattle.al_model.specs.Limits.{last_stamp}
-use Rattle.al_model.specs.State.{State}
-use Rattle.al_model.specs.declared.decision.Decision.{Decision}
-use Rattle.al_model.specs.declared.decision.Decision.TheVariants.{Refuse, Same, Change}
-use Rattle.al_model.specs.declared.decision.Refusal.TheVariants.{ClockEnd}
-use Rattle.al_model.specs.declared.decision.Reply.{Reply}
-use Rattle.al_model.specs.declared.decision.Reply.TheVariants.{Done}
-use Rattle.al_model.specs.declared.entry.Entry.{Entry}
-use Rattle.al_model.specs.declared.event.Event.{Event}
-use Rattle.al_model.specs.declared.event.Event.TheVariants as events
-use Rattle.al_model.specs.declared.request.Request.{Request}
-use Rattle.al_model.specs.declared.request.Request.TheVariants as requests
+use Rattle.al_report.specs.Alarms.{alarm_of, reported}
+use Rattle.al_report.specs.Limits.{last_stamp}
+use Rattle.al_report.specs.State.{State}
+use Rattle.al_report.specs.declared.decision.Decision.{Decision}
+use Rattle.al_report.specs.declared.decision.Decision.TheVariants.{Refuse, Same, Change}
+use Rattle.al_report.specs.declared.decision.Refusal.TheVariants.{ClockEnd}
+use Rattle.al_report.specs.declared.decision.Reply.{Reply}
+use Rattle.al_report.specs.declared.decision.Reply.TheVariants.{Done}
+use Rattle.al_report.specs.declared.entry.Entry.{Entry}
+use Rattle.al_report.specs.declared.event.Event.{Event}
+use Rattle.al_report.specs.declared.event.Event.TheVariants as events
+use Rattle.al_report.specs.declared.request.Request.{Request}
+use Rattle.al_report.specs.declared.request.Request.TheVariants as requests
 
 -- the time of the next entry: that of the clock, but later than the last entry
 abbrev pub entry_time : State → ℕ → ℕ

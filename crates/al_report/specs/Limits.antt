@@ -1,10 +1,10 @@
 -- How long what is reported may be, and how late.
 use Rattle.std.specs.Prelude.{ℕ, ◌≤◌, ◌<◌, length}
 use Rattle.al_base.specs.declared.text.Text.{Text}
-use Rattle.al_model.specs.declared.event.Event.{Event}
-use Rattle.al_model.specs.declared.event.Event.TheVariants as events
-use Rattle.al_model.specs.declared.request.Request.{Request}
-use Rattle.al_model.specs.declared.request.Request.TheVariants as requests
+use Rattle.al_report.specs.declared.event.Event.{Event}
+use Rattle.al_report.specs.declared.event.Event.TheVariants as events
+use Rattle.al_report.specs.declared.request.Request.{Request}
+use Rattle.al_report.specs.declared.request.Request.TheVariants as requests
 
 -- the last stamp, 9999-12-31T23:59:59.999Z
 abbrev pub last_stamp : ℕ

@@ -31,7 +31,7 @@ impl Error for Refusal {}
 
 impl From<AllocError> for Refusal {
     ghost use Rattle.std.specs.Prelude.{◌≡◌};
-    ghost use Rattle.al_model.specs.declared.decision.Refusal.TheVariants.{Memory};
+    ghost use Rattle.al_report.specs.declared.decision.Refusal.TheVariants.{Memory};
 
     ghost from_gives = { λ _ refusal. refusal ≡ Memory };
 

@@ -1,9 +1,9 @@
 -- The state of the alarm list, and its step at an entry.
 use Rattle.std.specs.Prelude.{◌≡◌, ℕ, Option, None, Some, List, []}
-use Rattle.al_model.specs.Alarms.{AlarmState, alarm_of, put, reported}
-use Rattle.al_model.specs.declared.entry.Entry.{Entry}
-use Rattle.al_model.specs.declared.event.Event.{Event}
-use Rattle.al_model.specs.declared.event.Event.TheVariants as events
+use Rattle.al_report.specs.Alarms.{AlarmState, alarm_of, put, reported}
+use Rattle.al_report.specs.declared.entry.Entry.{Entry}
+use Rattle.al_report.specs.declared.event.Event.{Event}
+use Rattle.al_report.specs.declared.event.Event.TheVariants as events
 
 -- the alarms, in the order of their resources, and the time of the last entry
 pub record State : Type 0 where

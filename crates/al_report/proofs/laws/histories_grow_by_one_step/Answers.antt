@@ -1,9 +1,9 @@
 use Rattle.std.proofs.Common.{[], ◌∷◌, lit≤}
-use Rattle.al_model.specs.History.{replay}
-use Rattle.al_model.specs.State.{start}
-use Rattle.al_model.proofs.Deciding.{decided_fits}
-use Rattle.al_model.proofs.Histories.{replay-push, legal_parts, legal_push, legal_at, legal_from_each, time_from}
-use Rattle.al_model.proofs.laws.histories_grow_by_one_step.Goals as goal
+use Rattle.al_report.specs.History.{replay}
+use Rattle.al_report.specs.State.{start}
+use Rattle.al_report.proofs.Deciding.{decided_fits}
+use Rattle.al_report.proofs.Histories.{replay-push, legal_parts, legal_push, legal_at, legal_from_each, time_from}
+use Rattle.al_report.proofs.laws.histories_grow_by_one_step.Goals as goal
 
 pub returns-clause-every_prefix : goal.returns-clause-every_prefix
 returns-clause-every_prefix c = λ h. (legal_at start h, legal_from_each start h)

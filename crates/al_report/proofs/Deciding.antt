@@ -2,21 +2,21 @@
 use Rattle.std.proofs.Common.{◌≡◌, ◌≢◌, ◌==◌, ◌<◌, ◌≤◌, ℕ, Bool, true, false, cond, Option, Some, None, refl, ap, sym, subst, arith}
 use Rattle.std.specs.Option.{is_some}
 use Rattle.std.proofs.lemmas.Bool.Decides.{Decides-eqb}
-use Rattle.al_model.specs.Alarms.{AlarmState, alarm_of, reported}
-use Rattle.al_model.specs.Decision.{entry_time, decision_on, decision_of, entry_of, event_of, changes, reply_of, IsSame, IsChangeBy}
-use Rattle.al_model.specs.Limits.{last_stamp, IsRequestWithin}
-use Rattle.al_model.specs.History.{asked_for, Fits}
-use Rattle.al_model.specs.State.{State, with_change, alarms_after, step, IsSameButTime}
-use Rattle.al_model.specs.declared.decision.Decision.{Decision}
-use Rattle.al_model.specs.declared.decision.Decision.TheVariants.{Refuse, Same, Change}
-use Rattle.al_model.specs.declared.decision.Refusal.TheVariants.{ClockEnd, Memory}
-use Rattle.al_model.specs.declared.decision.Reply.{Reply}
-use Rattle.al_model.specs.declared.decision.Reply.TheVariants.{Done}
-use Rattle.al_model.specs.declared.event.Event.{Event}
-use Rattle.al_model.specs.declared.event.Event.TheVariants as events
-use Rattle.al_model.specs.declared.request.Request.{Request}
-use Rattle.al_model.specs.declared.request.Request.TheVariants as requests
-use Rattle.al_model.proofs.Reporting.{changed}
+use Rattle.al_report.specs.Alarms.{AlarmState, alarm_of, reported}
+use Rattle.al_report.specs.Decision.{entry_time, decision_on, decision_of, entry_of, event_of, changes, reply_of, IsSame, IsChangeBy}
+use Rattle.al_report.specs.Limits.{last_stamp, IsRequestWithin}
+use Rattle.al_report.specs.History.{asked_for, Fits}
+use Rattle.al_report.specs.State.{State, with_change, alarms_after, step, IsSameButTime}
+use Rattle.al_report.specs.declared.decision.Decision.{Decision}
+use Rattle.al_report.specs.declared.decision.Decision.TheVariants.{Refuse, Same, Change}
+use Rattle.al_report.specs.declared.decision.Refusal.TheVariants.{ClockEnd, Memory}
+use Rattle.al_report.specs.declared.decision.Reply.{Reply}
+use Rattle.al_report.specs.declared.decision.Reply.TheVariants.{Done}
+use Rattle.al_report.specs.declared.event.Event.{Event}
+use Rattle.al_report.specs.declared.event.Event.TheVariants as events
+use Rattle.al_report.specs.declared.request.Request.{Request}
+use Rattle.al_report.specs.declared.request.Request.TheVariants as requests
+use Rattle.al_report.proofs.Reporting.{changed}
 
 -- the order of the two tests
 abbrev decided : Bool → Bool → Event → Reply → Decision

@@ -11,8 +11,8 @@ use Rattle.std.proofs.lemmas.List.Folds.{find-append}
 use Rattle.std.proofs.lemmas.List.Kept.{IsStrictlySortedBy-filter}
 use Rattle.std.proofs.lemmas.Map.Lookups.{exact_bytes}
 use Rattle.al_base.specs.declared.text.Text.{Text}
-use Rattle.al_model.specs.Alarms.{AlarmState, resource_cmp, alarm_of, below, above, put, IsInOrder}
-use Rattle.al_model.proofs.Finding.{find-filter_kept, find-filter_dropped}
+use Rattle.al_report.specs.Alarms.{AlarmState, resource_cmp, alarm_of, below, above, put, IsInOrder}
+use Rattle.al_report.proofs.Finding.{find-filter_kept, find-filter_dropped}
 
 -- a resource is itself
 pub same_resource : (r : Text) → resource_cmp r r ≡ Equal

@@ -11,12 +11,12 @@ use Rattle.al_base.specs.declared.severity.Severity.TheVariants.{Indeterminate, 
 use Rattle.al_base.specs.declared.severity.Status.{Status}
 use Rattle.al_base.specs.declared.severity.Status.TheVariants.{Cleared, Active}
 use Rattle.al_base.specs.declared.text.Text.{Text}
-use Rattle.al_model.specs.Alarms.{AlarmState, resource_cmp, alarm_of, put, raised, stands_with, reported, IsInOrder}
-use Rattle.al_model.specs.Laws.{resource_of, IsLeftBy}
-use Rattle.al_model.specs.State.{with_change, alarms_after}
-use Rattle.al_model.specs.declared.event.Event.{Event}
-use Rattle.al_model.specs.declared.event.Event.TheVariants as events
-use Rattle.al_model.proofs.Placing.{exact_resource, alarm_of-put, alarm_of-put_other, in_order-put}
+use Rattle.al_report.specs.Alarms.{AlarmState, resource_cmp, alarm_of, put, raised, stands_with, reported, IsInOrder}
+use Rattle.al_report.specs.Laws.{resource_of, IsLeftBy}
+use Rattle.al_report.specs.State.{with_change, alarms_after}
+use Rattle.al_report.specs.declared.event.Event.{Event}
+use Rattle.al_report.specs.declared.event.Event.TheVariants as events
+use Rattle.al_report.proofs.Placing.{exact_resource, alarm_of-put, alarm_of-put_other, in_order-put}
 
 -- what a look-up finds is of the resource
 pub alarm_of_resource : (r : Text) (alarms : List AlarmState) → IfSome (alarm_of r alarms) (λ a. a.resource ≡ r)

@@ -1,8 +1,8 @@
-use Rattle.al_model.specs.State.{start, step}
-use Rattle.al_model.proofs.Histories.{in_order_from, others_step, others_from, newest}
-use Rattle.al_model.proofs.Placing.{in_order_none}
-use Rattle.al_model.proofs.Reporting.{severity_stays}
-use Rattle.al_model.proofs.laws.alarms_follow_the_history.Goals as goal
+use Rattle.al_report.specs.State.{start, step}
+use Rattle.al_report.proofs.Histories.{in_order_from, others_step, others_from, newest}
+use Rattle.al_report.proofs.Placing.{in_order_none}
+use Rattle.al_report.proofs.Reporting.{severity_stays}
+use Rattle.al_report.proofs.laws.alarms_follow_the_history.Goals as goal
 
 pub returns-clause-in_order : goal.returns-clause-in_order
 returns-clause-in_order c = λ h. in_order_from start h in_order_none

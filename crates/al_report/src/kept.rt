@@ -1,5 +1,5 @@
 ghost use Rattle.std.specs.Prelude.{◌≡◌, List, length};
-ghost use Rattle.al_model.specs.declared.entry.Entry.{Entry};
+ghost use Rattle.al_report.specs.declared.entry.Entry.{Entry};
 
 /// What keeps a history.
 pub trait Kept: Drop {

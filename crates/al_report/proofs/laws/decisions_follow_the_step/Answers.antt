@@ -1,5 +1,5 @@
-use Rattle.al_model.proofs.Deciding.{same_is, is_same, never_memory, clock_end, at_end}
-use Rattle.al_model.proofs.laws.decisions_follow_the_step.Goals as goal
+use Rattle.al_report.proofs.Deciding.{same_is, is_same, never_memory, clock_end, at_end}
+use Rattle.al_report.proofs.laws.decisions_follow_the_step.Goals as goal
 
 pub returns-clause-same : goal.returns-clause-same
 returns-clause-same c = λ s origin request now. (same_is s origin request now, is_same s origin request now)

@@ -5,18 +5,18 @@ use Rattle.std.specs.Option.{option_map}
 use Rattle.al_base.specs.declared.severity.Status.{Status}
 use Rattle.al_base.specs.declared.severity.Status.TheVariants.{Cleared, Active}
 use Rattle.al_base.specs.declared.text.Text.{Text}
-use Rattle.al_model.specs.Alarms.{AlarmState, alarm_of, IsInOrder}
-use Rattle.al_model.specs.Decision.{decision_of, event_of, entry_of, IsSame}
-use Rattle.al_model.specs.History.{replay, Fits, IsLegal}
-use Rattle.al_model.specs.Limits.{last_stamp, IsRequestWithin}
-use Rattle.al_model.specs.State.{State, step, IsSameButTime}
-use Rattle.al_model.specs.declared.decision.Decision.TheVariants.{Refuse, Change}
-use Rattle.al_model.specs.declared.decision.Refusal.TheVariants.{ClockEnd, Memory}
-use Rattle.al_model.specs.declared.decision.Reply.{Reply}
-use Rattle.al_model.specs.declared.entry.Entry.{Entry}
-use Rattle.al_model.specs.declared.event.Event.{Event}
-use Rattle.al_model.specs.declared.event.Event.TheVariants as events
-use Rattle.al_model.specs.declared.request.Request.{Request}
+use Rattle.al_report.specs.Alarms.{AlarmState, alarm_of, IsInOrder}
+use Rattle.al_report.specs.Decision.{decision_of, event_of, entry_of, IsSame}
+use Rattle.al_report.specs.History.{replay, Fits, IsLegal}
+use Rattle.al_report.specs.Limits.{last_stamp, IsRequestWithin}
+use Rattle.al_report.specs.State.{State, step, IsSameButTime}
+use Rattle.al_report.specs.declared.decision.Decision.TheVariants.{Refuse, Change}
+use Rattle.al_report.specs.declared.decision.Refusal.TheVariants.{ClockEnd, Memory}
+use Rattle.al_report.specs.declared.decision.Reply.{Reply}
+use Rattle.al_report.specs.declared.entry.Entry.{Entry}
+use Rattle.al_report.specs.declared.event.Event.{Event}
+use Rattle.al_report.specs.declared.event.Event.TheVariants as events
+use Rattle.al_report.specs.declared.request.Request.{Request}
 
 -- A decision is Same exactly where the step of the request's event leaves all but the time.
 abbrev pub SameLeavesAllButTime : Type 0

@@ -1,13 +1,13 @@
 -- Histories: what stands after them, and which of them are legal.
 use Rattle.std.specs.Prelude.{◌<◌, ◌≤◌, List, [], ◌∷◌, ⊤}
-use Rattle.al_model.specs.Decision.{decision_of, IsChangeBy}
-use Rattle.al_model.specs.Limits.{last_stamp, IsEventWithin}
-use Rattle.al_model.specs.State.{State, start, step}
-use Rattle.al_model.specs.declared.entry.Entry.{Entry}
-use Rattle.al_model.specs.declared.event.Event.{Event}
-use Rattle.al_model.specs.declared.event.Event.TheVariants as events
-use Rattle.al_model.specs.declared.request.Request.{Request}
-use Rattle.al_model.specs.declared.request.Request.TheVariants as requests
+use Rattle.al_report.specs.Decision.{decision_of, IsChangeBy}
+use Rattle.al_report.specs.Limits.{last_stamp, IsEventWithin}
+use Rattle.al_report.specs.State.{State, start, step}
+use Rattle.al_report.specs.declared.entry.Entry.{Entry}
+use Rattle.al_report.specs.declared.event.Event.{Event}
+use Rattle.al_report.specs.declared.event.Event.TheVariants as events
+use Rattle.al_report.specs.declared.request.Request.{Request}
+use Rattle.al_report.specs.declared.request.Request.TheVariants as requests
 
 -- the state after a history that goes on from a state, and after a whole one
 abbrev pub replay_from : State → List Entry → State

@@ -5,16 +5,16 @@ use Rattle.std.specs.Option.{is_some, IsSomeAnd}
 use Rattle.std.proofs.lemmas.Option.{same_Some}
 use Rattle.al_base.specs.declared.severity.Status.{Status}
 use Rattle.al_base.specs.declared.text.Text.{Text}
-use Rattle.al_model.specs.Alarms.{AlarmState, alarm_of, reported, IsInOrder}
-use Rattle.al_model.specs.Laws.{resource_of, IsLeftBy}
-use Rattle.al_model.specs.Limits.{last_stamp}
-use Rattle.al_model.specs.History.{replay_from, replay, Fits, IsLegalFrom, IsLegal}
-use Rattle.al_model.specs.State.{State, start, with_change, step}
-use Rattle.al_model.specs.declared.entry.Entry.{Entry}
-use Rattle.al_model.specs.declared.event.Event.TheVariants as events
-use Rattle.al_model.specs.declared.request.Request.TheVariants as requests
-use Rattle.al_model.proofs.Deciding.{fitting_changes}
-use Rattle.al_model.proofs.Reporting.{makes_at, alarm_of-change, in_order_after, others_event}
+use Rattle.al_report.specs.Alarms.{AlarmState, alarm_of, reported, IsInOrder}
+use Rattle.al_report.specs.Laws.{resource_of, IsLeftBy}
+use Rattle.al_report.specs.Limits.{last_stamp}
+use Rattle.al_report.specs.History.{replay_from, replay, Fits, IsLegalFrom, IsLegal}
+use Rattle.al_report.specs.State.{State, start, with_change, step}
+use Rattle.al_report.specs.declared.entry.Entry.{Entry}
+use Rattle.al_report.specs.declared.event.Event.TheVariants as events
+use Rattle.al_report.specs.declared.request.Request.TheVariants as requests
+use Rattle.al_report.proofs.Deciding.{fitting_changes}
+use Rattle.al_report.proofs.Reporting.{makes_at, alarm_of-change, in_order_after, others_event}
 
 pub replay_from-append : (s : State) (h k : List Entry) → replay_from s (h ++ k) ≡ replay_from (replay_from s h) k
 replay_from-append s [] k = refl

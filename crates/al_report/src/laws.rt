@@ -1,6 +1,6 @@
 //! What holds of every state and history, each as the contract of a function that does nothing.
 
-ghost use Rattle.al_model.specs.Laws.{SameLeavesAllButTime, NeverRefusesForMemory, ClockEndsAtLastStamp, EveryPrefixFits, OneMoreIsOneStep, OneMoreFits, DecidedEntriesFit, EndsInTime, AlarmsAreInOrder, OthersStay, UnreportedHaveNone, NewestDecides, ClearLeavesSeverity};
+ghost use Rattle.al_report.specs.Laws.{SameLeavesAllButTime, NeverRefusesForMemory, ClockEndsAtLastStamp, EveryPrefixFits, OneMoreIsOneStep, OneMoreFits, DecidedEntriesFit, EndsInTime, AlarmsAreInOrder, OthersStay, UnreportedHaveNone, NewestDecides, ClearLeavesSeverity};
 
 /// When a request changes nothing, and by what it is refused.
 pub fn decisions_follow_the_step()
