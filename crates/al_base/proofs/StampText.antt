@@ -1,5 +1,7 @@
 -- What the digits in a stamp's text say.
-use Rattle.std.proofs.Common.{◌≡◌, ℕ, ◌+◌, ◌-◌, ◌*◌, ◌/◌, ◌%◌, ◌≤◌, min, List, length, slice_index, pos, refl, arith}
+use Rattle.std.proofs.Common.{◌≡◌, ℕ, ◌+◌, ◌-◌, ◌*◌, ◌/◌, ◌%◌, ◌≤◌, min, List, [], ◌∷◌, zero, suc, length, slice_index, ◌<◌, pos, refl, arith}
+use Rattle.std.specs.Str.{IsAscii, IsUtf8}
+use Rattle.std.proofs.lemmas.Str.{IsUtf8-from_ascii}
 use Rattle.jiff_core.proofs.CalendarLemmas.{days_in_month_bounds}
 use Rattle.al_base.specs.Times.{Day, day_after, digit, stamp_text}
 use Rattle.al_base.proofs.Days.{day_after_number}
@@ -44,3 +46,22 @@ clock_read ms =
     let seconds = two_digits_are (ms % 86400000 / 1000 % 60) (omega arith) in
     let thousandths = three_digits_are (ms % 86400000 % 1000) (omega arith) in
     rw (hours, minutes, seconds, thousandths) (omega arith)
+
+-- The bytes are of ASCII, one after the other.
+abbrev AreAscii : List ℕ → Type 0
+AreAscii [] = Unit {0}
+AreAscii (byte ∷ rest) = (byte < 128) × AreAscii rest
+
+ascii : (bytes : List ℕ) → AreAscii bytes → IsAscii bytes
+ascii [] h i = omega arith
+ascii (byte ∷ rest) h zero = h.0
+ascii (byte ∷ rest) h (suc i) = ascii rest h.1 i
+
+small_digit : (n unit : ℕ) → digit n unit < 128
+small_digit n unit = omega arith
+
+-- so a stamp's text is UTF-8
+pub stamp_text_is_utf8 : (ms : ℕ) → IsUtf8 (stamp_text ms)
+unfolding stamp_text
+stamp_text_is_utf8 ms =
+    IsUtf8-from_ascii (stamp_text ms) (ascii (stamp_text ms) (small_digit ((day_after (ms / 86400000)).year) 1000, (small_digit ((day_after (ms / 86400000)).year) 100, (small_digit ((day_after (ms / 86400000)).year) 10, (small_digit ((day_after (ms / 86400000)).year) 1, (omega arith, (small_digit ((day_after (ms / 86400000)).month) 10, (small_digit ((day_after (ms / 86400000)).month) 1, (omega arith, (small_digit ((day_after (ms / 86400000)).day) 10, (small_digit ((day_after (ms / 86400000)).day) 1, (omega arith, (small_digit (ms % 86400000 / 3600000) 10, (small_digit (ms % 86400000 / 3600000) 1, (omega arith, (small_digit (ms % 86400000 / 60000 % 60) 10, (small_digit (ms % 86400000 / 60000 % 60) 1, (omega arith, (small_digit (ms % 86400000 / 1000 % 60) 10, (small_digit (ms % 86400000 / 1000 % 60) 1, (omega arith, (small_digit (ms % 86400000 % 1000) 100, (small_digit (ms % 86400000 % 1000) 10, (small_digit (ms % 86400000 % 1000) 1, (omega arith, tt)))))))))))))))))))))))))

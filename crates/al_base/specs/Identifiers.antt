@@ -1,6 +1,7 @@
 -- Identifiers of YANG, and alarm types, which are named by two of them.
 use Rattle.std.specs.Prelude.{◌≡◌, ℕ, ◌≤◌, ◌==◌, ◌||◌, ◌&&◌, Bool, false, IsTrue, List, [], ◌∷◌, ◌++◌, length}
 use Rattle.std.specs.List.{list_all}
+use Rattle.al_base.specs.Limits.{shortest_type, longest_type}
 use Rattle.std.specs.Char.{is_ascii_alphabetic, is_ascii_alphanumeric}
 
 -- a letter, or `_`
@@ -22,5 +23,5 @@ pub record IsTypeName (text : List ℕ) : Type 0 where
   pub spelling : text ≡ defined_in ++ 58 ∷ identity
   pub has_module : IsTrue (is_identifier defined_in)
   pub has_identity : IsTrue (is_identifier identity)
-  pub shortest : 3 ≤ length text
-  pub longest : length text ≤ 128
+  pub shortest : shortest_type ≤ length text
+  pub longest : length text ≤ longest_type

@@ -1,6 +1,10 @@
 ghost use Rattle.std.specs.Prelude.{◌≡◌, IfOk};
 
+use crate::event_type::EventType;
 use crate::list::List;
+use crate::operator::OperatorState;
+use crate::severity::{Severity, Status};
+use crate::stamp::Stamp;
 use std::alloc::{AllocError, Global};
 
 /// What can be copied, as far as there is memory for the copy.
@@ -26,5 +30,47 @@ impl<T: Copied> Copied for List<T> {
             items.push(item.copy(alloc)?)?;
         }
         Ok(List::of(items))
+    }
+}
+
+// Stamps and words need no memory, so their copies never fail.
+
+impl Copied for Stamp {
+    fn copy(&self, _alloc: Global) -> Result<Stamp, AllocError>
+        ensures { result ≡ Ok self.now }
+    {
+        Ok(*self)
+    }
+}
+
+impl Copied for Severity {
+    fn copy(&self, _alloc: Global) -> Result<Severity, AllocError>
+        ensures { result ≡ Ok self.now }
+    {
+        Ok(*self)
+    }
+}
+
+impl Copied for Status {
+    fn copy(&self, _alloc: Global) -> Result<Status, AllocError>
+        ensures { result ≡ Ok self.now }
+    {
+        Ok(*self)
+    }
+}
+
+impl Copied for OperatorState {
+    fn copy(&self, _alloc: Global) -> Result<OperatorState, AllocError>
+        ensures { result ≡ Ok self.now }
+    {
+        Ok(*self)
+    }
+}
+
+impl Copied for EventType {
+    fn copy(&self, _alloc: Global) -> Result<EventType, AllocError>
+        ensures { result ≡ Ok self.now }
+    {
+        Ok(*self)
     }
 }

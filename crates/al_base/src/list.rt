@@ -1,3 +1,5 @@
+ghost use Rattle.std.specs.Bool.{Decides};
+ghost use Rattle.std.specs.Cmp.Lexicographic.{pointwise, lists_per, lists_equiv};
 ghost use Rattle.std.specs.Prelude.{◌≡◌};
 
 use std::marker::Model;
@@ -41,4 +43,25 @@ impl<T> List<T> {
         let List { items } = self;
         items
     }
+}
+
+// Lists are compared item by item.
+
+impl<T: PartialEq> PartialEq for List<T> {
+    ghost eq = { pointwise T.eq };
+
+    ghost laws = { lists_per T.laws };
+
+    fn eq(&self, other: &List<T>) -> bool
+        ensures value { result ≡ pointwise T.eq self.now other.now }
+
+        // where the items' equality is exact, so is that of lists
+        ensures exact { ((a b : T) → Decides (T.eq a b) (a ≡ b)) → Decides result (self.now ≡ other.now) }
+    {
+        self.as_slice() == other.as_slice()
+    }
+}
+
+impl<T: Eq> Eq for List<T> {
+    ghost laws = { lists_equiv T.Eq.laws };
 }

@@ -1,5 +1,6 @@
 ghost use Rattle.std.specs.Option.{SomeIff};
-ghost use Rattle.std.specs.Prelude.{◌≡◌, ◌↔◌, ◌+◌, ◌-◌, ◌*◌, ◌<◌, ◌≤◌, ℕ, length, min, slice_index, IfSome};
+ghost use Rattle.std.specs.Prelude.{◌≡◌, ◌↔◌, ◌+◌, ◌-◌, ◌*◌, ◌<◌, ◌≤◌, ℕ, length, min, slice_index, IfSome, IsUtf8};
+ghost use Rattle.al_base.specs.Limits.{last_stamp};
 ghost use Rattle.al_base.specs.Times.{Day, day_after, digit as digit_of, stamp_text};
 
 use jiff_core::civil::Date;
@@ -16,7 +17,7 @@ impl Model for Stamp {
 
     ghost view = { λ s. s.ms };
 
-    ghost invariant = { λ s. s.ms ≤ 253402300799999 };
+    ghost invariant = { λ s. s.ms ≤ last_stamp };
 
     ghost inverse = { λ n. record { ms = n } };
 }
@@ -32,7 +33,7 @@ impl Stamp {
 
     /// The stamp of so many milliseconds since 1970, None past the last one.
     pub fn of(ms: u64) -> Option<Stamp>
-        ensures { SomeIff result (ms ≤ 253402300799999) ms }
+        ensures { SomeIff result (ms ≤ last_stamp) ms }
     {
         if ms <= 253_402_300_799_999 {
             Some(Stamp { ms })
@@ -44,7 +45,7 @@ impl Stamp {
     /// The milliseconds since 1970.
     pub fn ms(self) -> u64
         ensures value { result ≡ self }
-        ensures bound { self ≤ 253402300799999 }
+        ensures bound { self ≤ last_stamp }
     {
         self.ms
     }
@@ -52,7 +53,8 @@ impl Stamp {
     #[tactic(auto, unfolding(crate::specs::Times::stamp_text))]
     /// Writes the stamp as text, as `2024-05-01T10:00:00.000Z`.
     pub fn print(&self, out: &mut [u8; 24])
-        ensures { out.new ≡ stamp_text self.now }
+        ensures text { out.new ≡ stamp_text self.now }
+        ensures utf8 { IsUtf8 out.new }
     {
         let clock = self.ms % MS_PER_DAY;
         let (year, month, day) = date_of(self.ms / MS_PER_DAY);
@@ -86,7 +88,7 @@ impl Stamp {
 
     /// The stamp of a text that `print` writes, None of any other.
     pub fn read(bytes: &[u8]) -> Option<Stamp>
-        ensures { (ms : ℕ) → (result ≡ Some ms) ↔ ((ms ≤ 253402300799999) × (bytes.now ≡ stamp_text ms)) }
+        ensures { (ms : ℕ) → (result ≡ Some ms) ↔ ((ms ≤ last_stamp) × (bytes.now ≡ stamp_text ms)) }
     {
         let stamp = of_digits(bytes)?;
         let mut text = [0; 24];
@@ -154,7 +156,7 @@ fn two_at(bytes: &[u8], place: usize) -> u64
 
 /// What the digits of a stamp's text say, whatever stands between them.
 fn of_digits(bytes: &[u8]) -> Option<Stamp>
-    ensures { (ms : ℕ) → ms ≤ 253402300799999 → bytes.now ≡ stamp_text ms → result ≡ Some ms }
+    ensures { (ms : ℕ) → ms ≤ last_stamp → bytes.now ≡ stamp_text ms → result ≡ Some ms }
 {
     if bytes.len() != 24 {
         return None;

@@ -4,7 +4,7 @@ ghost use Rattle.std.specs.Cmp.Lexicographic.{slice_cmp};
 ghost use Rattle.std.specs.Cmp.Rules.{comparing};
 ghost use Rattle.std.specs.Cmp.{partial_order_from_own_ties};
 ghost use Rattle.std.specs.Ordering.{as_partial_cmp, nat_cmp};
-ghost use Rattle.std.specs.Prelude.{◌≡◌, ◌↔◌, IfOk, IsUtf8};
+ghost use Rattle.std.specs.Prelude.{◌≡◌, ◌↔◌, IfOk, IsTrue, IsUtf8};
 ghost use lib.Pointwise.{pointwise};
 
 use crate::copied::Copied;
@@ -37,17 +37,15 @@ impl Error for TextFault {}
 /// UTF-8 text, which contracts see as its bytes.
 #[derive(Debug, Drop)]
 pub struct Text {
-    bytes: Vec<u8>,
+    text: String,
 }
 
 impl Model for Text {
-    ghost use Rattle.std.specs.Prelude.{List, ℕ, IsUtf8};
+    ghost use Rattle.std.specs.Prelude.{List, ℕ, string_bytes};
 
     ghost Value = { List ℕ };
 
-    ghost view = { λ t. t.bytes.items };
-
-    ghost invariant = { λ t. IsUtf8 t.bytes.items };
+    ghost view = { λ t. string_bytes t.text };
 }
 
 impl Text {
@@ -59,8 +57,8 @@ impl Text {
         let Ok(text) = str::from_utf8(bytes) else {
             return Err(TextFault::NotUtf8);
         };
-        match Vec::from_slice(alloc, text.as_bytes()) {
-            Ok(bytes) => Ok(Text { bytes }),
+        match String::from_str(alloc, text) {
+            Ok(text) => Ok(Text { text }),
             Err(AllocError) => Err(TextFault::Memory),
         }
     }
@@ -69,7 +67,13 @@ impl Text {
         ensures bytes { result.now ≡ self.now }
         ensures utf8 { IsUtf8 result.now }
     {
-        self.bytes.as_slice()
+        self.as_str().as_bytes()
+    }
+
+    pub fn as_str(&self) -> &str
+        ensures { result.now ≡ self.now }
+    {
+        self.text.as_str()
     }
 }
 
@@ -80,8 +84,11 @@ impl PartialEq for Text {
 
     ghost laws = { Prim.search (comparing, rules) };
 
-    fn eq(&self, other: &Text) -> bool {
-        self.bytes.as_slice() == other.bytes.as_slice()
+    fn eq(&self, other: &Text) -> bool
+        ensures value { result ≡ pointwise ◌==◌ self.now other.now }
+        ensures exact { IsTrue result ↔ (self.now ≡ other.now) }
+    {
+        self.bytes() == other.bytes()
     }
 }
 
@@ -109,14 +116,14 @@ impl Ord for Text {
     ghost matches_eq = { Prim.search (comparing, rules) };
 
     fn cmp(&self, other: &Text) -> Ordering {
-        self.bytes.as_slice().cmp(&other.bytes.as_slice())
+        self.bytes().cmp(&other.bytes())
     }
 }
 
 impl Copied for Text {
     fn copy(&self, alloc: Global) -> Result<Text, AllocError> {
         Ok(Text {
-            bytes: Vec::from_slice(alloc, self.bytes.as_slice())?,
+            text: String::from_str(alloc, self.as_str())?,
         })
     }
 }

@@ -141,7 +141,10 @@ impl PartialEq for TypeId {
 
     ghost laws = { Prim.search (comparing, rules) };
 
-    fn eq(&self, other: &TypeId) -> bool {
+    fn eq(&self, other: &TypeId) -> bool
+        ensures value { result ≡ pointwise ◌==◌ self.now other.now }
+        ensures exact { IsTrue result ↔ (self.now ≡ other.now) }
+    {
         self.text == other.text
     }
 }
