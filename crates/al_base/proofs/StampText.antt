@@ -64,4 +64,75 @@ small_digit n unit = omega arith
 pub stamp_text_is_utf8 : (ms : ℕ) → IsUtf8 (stamp_text ms)
 unfolding stamp_text
 stamp_text_is_utf8 ms =
-    IsUtf8-from_ascii (stamp_text ms) (ascii (stamp_text ms) (small_digit ((day_after (ms / 86400000)).year) 1000, (small_digit ((day_after (ms / 86400000)).year) 100, (small_digit ((day_after (ms / 86400000)).year) 10, (small_digit ((day_after (ms / 86400000)).year) 1, (omega arith, (small_digit ((day_after (ms / 86400000)).month) 10, (small_digit ((day_after (ms / 86400000)).month) 1, (omega arith, (small_digit ((day_after (ms / 86400000)).day) 10, (small_digit ((day_after (ms / 86400000)).day) 1, (omega arith, (small_digit (ms % 86400000 / 3600000) 10, (small_digit (ms % 86400000 / 3600000) 1, (omega arith, (small_digit (ms % 86400000 / 60000 % 60) 10, (small_digit (ms % 86400000 / 60000 % 60) 1, (omega arith, (small_digit (ms % 86400000 / 1000 % 60) 10, (small_digit (ms % 86400000 / 1000 % 60) 1, (omega arith, (small_digit (ms % 86400000 % 1000) 100, (small_digit (ms % 86400000 % 1000) 10, (small_digit (ms % 86400000 % 1000) 1, (omega arith, tt)))))))))))))))))))))))))
+    let day : Day = day_after (ms / 86400000) in
+    let clock : ℕ = ms % 86400000 in
+    IsUtf8-from_ascii (stamp_text ms) (ascii (stamp_text ms) (
+      small_digit day.year 1000,
+      (
+        small_digit day.year 100,
+        (
+          small_digit day.year 10,
+          (
+            small_digit day.year 1,
+            (
+              omega arith,
+              (
+                small_digit day.month 10,
+                (
+                  small_digit day.month 1,
+                  (
+                    omega arith,
+                    (
+                      small_digit day.day 10,
+                      (
+                        small_digit day.day 1,
+                        (
+                          omega arith,
+                          (
+                            small_digit (clock / 3600000) 10,
+                            (
+                              small_digit (clock / 3600000) 1,
+                              (
+                                omega arith,
+                                (
+                                  small_digit (clock / 60000 % 60) 10,
+                                  (
+                                    small_digit (clock / 60000 % 60) 1,
+                                    (
+                                      omega arith,
+                                      (
+                                        small_digit (clock / 1000 % 60) 10,
+                                        (
+                                          small_digit (clock / 1000 % 60) 1,
+                                          (
+                                            omega arith,
+                                            (
+                                              small_digit (clock % 1000) 100,
+                                              (
+                                                small_digit (clock % 1000) 10,
+                                                (
+                                                  small_digit (clock % 1000) 1,
+                                                  (omega arith, tt),
+                                                ),
+                                              ),
+                                            ),
+                                          ),
+                                        ),
+                                      ),
+                                    ),
+                                  ),
+                                ),
+                              ),
+                            ),
+                          ),
+                        ),
+                      ),
+                    ),
+                  ),
+                ),
+              ),
+            ),
+          ),
+        ),
+      ),
+    ))

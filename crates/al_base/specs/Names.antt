@@ -47,3 +47,17 @@ event_type_name OperationalViolation = codes "operational-violation"
 event_type_name PhysicalViolation = codes "physical-violation"
 event_type_name SecurityServiceOrMechanismViolation = codes "security-service-or-mechanism-violation"
 event_type_name TimeDomainViolation = codes "time-domain-violation"
+
+-- the place of an event type among all of them, from 1 on
+abbrev pub event_type_number : EventType → ℕ
+event_type_number Other = 1
+event_type_number CommunicationsAlarm = 2
+event_type_number QualityOfServiceAlarm = 3
+event_type_number ProcessingErrorAlarm = 4
+event_type_number EquipmentAlarm = 5
+event_type_number EnvironmentalAlarm = 6
+event_type_number IntegrityViolation = 7
+event_type_number OperationalViolation = 8
+event_type_number PhysicalViolation = 9
+event_type_number SecurityServiceOrMechanismViolation = 10
+event_type_number TimeDomainViolation = 11

@@ -18,7 +18,7 @@ abbrev pub depth : Place → ℕ
 depth Root = 0
 depth (Declared n) = n + 1
 
-abbrev number : Place → ℕ
+abbrev pub number : Place → ℕ
 number Root = 0
 number (Declared n) = n
 
@@ -32,7 +32,7 @@ one_type : (identities : List Identity) (place : Place) (a b : List ℕ) → Sta
 one_type identities Root a b h k = h ∙ sym k
 one_type identities (Declared n) a b h k = ap name_in (sym h.1 ∙ k.1)
 
-one_place : (identities : List Identity) (rows : List Row) → IsSound identities rows → (p q : Place) (a : List ℕ) → StandsAt identities p a → StandsAt identities q a → p ≡ q
+pub one_place : (identities : List Identity) (rows : List Row) → IsSound identities rows → (p q : Place) (a : List ℕ) → StandsAt identities p a → StandsAt identities q a → p ≡ q
 one_place identities rows s Root Root a h k = refl
 one_place identities rows s Root (Declared n) a h k = absurd (s.names n (record { identity = record { name = a; base = k.0 }; stands = k.1; known = inl h }))
 one_place identities rows s (Declared n) Root a h k = absurd (s.names n (record { identity = record { name = a; base = h.0 }; stands = h.1; known = inl k }))
@@ -45,7 +45,7 @@ one_place identities rows s (Declared m) (Declared n) a h k =
       ]
     ]
 
-one_base : (i : InventoryView) → IsSound i.identities i.rows → (t b c : List ℕ) (n : ℕ) → Declares i t b → slice_get i.identities n ≡ Some (record { name = t; base = c }) → b ≡ c
+pub one_base : (i : InventoryView) → IsSound i.identities i.rows → (t b c : List ℕ) (n : ℕ) → Declares i t b → slice_get i.identities n ≡ Some (record { name = t; base = c }) → b ≡ c
 one_base i s t b c n d h =
     let e : d.0 ≡ n = ap number (one_place i.identities i.rows s (Declared d.0) (Declared n) t (b, d.1) (c, h)) in
     ap base_in (sym d.1 ∙ ap (slice_get i.identities) e ∙ h)

@@ -1,3 +1,6 @@
 pub mod Building
 pub mod Derivations
 pub mod Found
+pub mod Heirs
+pub mod RowLemmas
+pub mod Told

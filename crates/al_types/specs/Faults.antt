@@ -1,5 +1,6 @@
 -- Which lists make an inventory, and which fault others have.
 use Rattle.std.specs.Prelude.{◌≡◌, ℕ, ◌≤◌, ◌⊎◌, List, None, Some, length, Result, Ok, Err}
+use Rattle.al_base.specs.Limits.{most_identities, most_rows}
 use Rattle.al_types.specs.Inventories.{InventoryView}
 use Rattle.al_types.specs.Known.{IsDuplicateIdentity, IsUnknownBase, IsDuplicateRow, IsFirst}
 use Rattle.al_types.specs.declared.fault.InventoryFault.{InventoryFault}
@@ -7,9 +8,9 @@ use Rattle.al_types.specs.declared.fault.InventoryFault.TheVariants.{TooMany, Du
 use Rattle.al_types.specs.declared.row.Identity.{Identity}
 use Rattle.al_types.specs.declared.row.Row.{Row}
 
--- Each list has at most 2,000 members.
+-- Each list is as short as it has to be.
 abbrev pub AreFew : List Identity → List Row → Type 0
-AreFew identities rows = (length identities ≤ 2000) × (length rows ≤ 2000)
+AreFew identities rows = (length identities ≤ most_identities) × (length rows ≤ most_rows)
 
 -- The lists make an inventory.
 pub record IsSound (identities : List Identity) (rows : List Row) : Type 0 where

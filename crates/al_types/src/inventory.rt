@@ -1,4 +1,5 @@
-ghost use Rattle.std.specs.Prelude.{◌≡◌, ◌↔◌, IfSome, IsTrue, length};
+ghost use Rattle.std.specs.Prelude.{◌≡◌, ◌↔◌, IfSome, IsTrue, find, length, option_copied};
+ghost use Rattle.al_types.specs.Inventories.{is_of};
 
 use crate::fault::InventoryFault;
 use crate::place::{Place, find_bases, place_before};
@@ -33,18 +34,18 @@ impl Model for Inventory {
 
 impl Inventory {
     ghost use Rattle.al_types.specs.Faults.{IsBuilt, IsSound};
-    ghost use Rattle.al_types.specs.Inventories.{DerivesFrom, IsOnlyRow, IsRowOf};
+    ghost use Rattle.al_types.specs.Inventories.{DerivesFrom, IsOnlyRow, IsRowOf, derives_from, no_inventory, row_of};
     ghost use Rattle.al_types.specs.Places.{IsPlaceBefore, IsStanding, TellsDerivation};
 
     /// The inventory of these lists. A list is searched once for each of its members.
     pub fn build(
         alloc: Global,
-        identities: List<Identity>,
-        rows: List<Row>,
+        identities: Vec<Identity>,
+        rows: Vec<Row>,
     ) -> Result<Inventory, InventoryFault>
-        ensures { IsBuilt identities rows result }
+        ensures { IsBuilt identities.items rows.items result }
     {
-        if identities.as_slice().len() > MAX_DECLARED || rows.as_slice().len() > MAX_DECLARED {
+        if identities.len() > MAX_DECLARED || rows.len() > MAX_DECLARED {
             return Err(InventoryFault::TooMany);
         }
         if let Some(n) = duplicate_identity(identities.as_slice()) {
@@ -55,10 +56,21 @@ impl Inventory {
             return Err(InventoryFault::DuplicateRow(n));
         }
         Ok(Inventory {
-            identities,
-            rows,
+            identities: List::of(identities),
+            rows: List::of(rows),
             bases,
         })
+    }
+
+    /// The inventory that declares nothing. It takes no memory.
+    pub fn empty(alloc: Global) -> Inventory
+        ensures { result ≡ no_inventory }
+    {
+        Inventory {
+            identities: List::of(Vec::new(alloc)),
+            rows: List::of(Vec::new(alloc)),
+            bases: Vec::new(alloc),
+        }
     }
 
     /// The declared alarm types.
@@ -79,20 +91,17 @@ impl Inventory {
 
     /// The row of this type and qualifier.
     pub fn row(&self, t: &TypeId, qualifier: &Text) -> Option<&Row>
+        ensures value { option_copied result ≡ row_of self.now t.now qualifier.now }
         ensures found { IfSome result (λ row. IsOnlyRow self.now t.now qualifier.now row.now) }
         ensures none { (result ≡ None) ↔ ((row : Row) → ¬ (IsRowOf self.now t.now qualifier.now row)) }
     {
-        for row in self.rows.as_slice() {
-            if row.is_of(t, qualifier) {
-                return Some(row);
-            }
-        }
-        None
+        find_row(self.rows(), t, qualifier)
     }
 
     /// Whether the type is the base or derives from it.
     pub fn derives(&self, t: &TypeId, base: &TypeId) -> bool
-        ensures { IsTrue result ↔ DerivesFrom self.now t.now base.now }
+        ensures value { result ≡ derives_from self.now t.now base.now }
+        ensures exact { IsTrue result ↔ DerivesFrom self.now t.now base.now }
     {
         if t == base {
             return true;
@@ -125,6 +134,40 @@ impl Inventory {
         }
         true
     }
+}
+
+/// The first row of this type and qualifier.
+fn find_row<'a>(rows: &'a [Row], t: &TypeId, qualifier: &Text) -> Option<&'a Row>
+    ensures { option_copied result ≡ find (is_of t.now qualifier.now) rows.now }
+{
+    rows.iter().find(|row| row.is_of(t, qualifier))
+}
+
+// Inventories are the same where their lists are.
+
+impl PartialEq for Inventory {
+    ghost use Rattle.al_types.specs.Exact.{same_inventory_decides};
+    ghost use Rattle.al_types.specs.Same.{same_inventory};
+    ghost use Rattle.std.specs.Cmp.{decided, partial_equiv_from_equiv};
+
+    ghost eq = { same_inventory };
+
+    ghost laws = { partial_equiv_from_equiv (decided same_inventory same_inventory_decides) };
+
+    fn eq(&self, other: &Inventory) -> bool
+        ensures value { result ≡ same_inventory self.now other.now }
+        ensures exact { IsTrue result ↔ (self.now ≡ other.now) }
+    {
+        self.identities == other.identities && self.rows == other.rows
+    }
+}
+
+impl Eq for Inventory {
+    ghost use Rattle.al_types.specs.Exact.{same_inventory_decides};
+    ghost use Rattle.al_types.specs.Same.{same_inventory};
+    ghost use Rattle.std.specs.Cmp.{decided};
+
+    ghost laws = { decided same_inventory same_inventory_decides };
 }
 
 impl Copied for Inventory {

@@ -3,6 +3,7 @@
 
 pub mod fault;
 pub mod inventory;
+pub mod laws;
 mod place;
 mod repeats;
 pub mod row;

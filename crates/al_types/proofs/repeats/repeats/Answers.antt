@@ -9,7 +9,7 @@ returns-then-is_of c =
     let lt : c.loop-earlier.earlier < length c.args.rows.now = omega arith in
     let first = slice_get_read c.args.rows.now (length c.args.rows.now) c.loop-earlier.earlier c.index-rows-earlier.result refl lt c.index-rows-earlier.is in
     let second = slice_get_read c.args.rows.now (length c.args.rows.now) c.args.n c.index-rows-n.result refl c.requires c.index-rows-n.is in
-    let same = c.is_of.ensures.0 c.if-is_of.true in
+    let same = c.is_of.ensures.exact.0 c.if-is_of.true in
     let d : IsDuplicateRow c.args.rows.now c.args.n = record {
       earlier = c.loop-earlier.earlier;
       before = omega arith;
@@ -28,4 +28,4 @@ loop-earlier-preserved c =
     let first = slice_get_read c.args.rows.now (length c.args.rows.now) c.loop-earlier.earlier c.index-rows-earlier.result refl lt c.index-rows-earlier.is in
     let second = slice_get_read c.args.rows.now (length c.args.rows.now) c.args.n c.index-rows-n.result refl c.requires c.index-rows-n.is in
     none_before_next c.args.rows.now c.args.n c.loop-earlier.earlier c.index-rows-earlier.result c.index-rows-n.result c.loop-earlier.invariant first second
-    (λ type_ids qualifiers. (let yes = c.is_of.ensures.1 (type_ids, qualifiers) in absurd (cc)))
+    (λ type_ids qualifiers. (let yes = c.is_of.ensures.exact.1 (type_ids, qualifiers) in absurd (cc)))
