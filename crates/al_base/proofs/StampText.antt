@@ -1,9 +1,9 @@
 -- What the digits in a stamp's text say.
-use Rattle.std.proofs.Common.{◌≡◌, ℕ, ◌+◌, ◌-◌, ◌*◌, ◌/◌, ◌%◌, ◌≤◌, min, List, [], ◌∷◌, zero, suc, length, slice_index, ◌<◌, pos, refl, arith}
+use Rattle.std.proofs.Common.{◌≡◌, ℕ, ◌+◌, ◌-◌, ◌*◌, ◌/◌, ◌%◌, ◌≤◌, min, List, [], ◌∷◌, ◌++◌, zero, suc, length, slice_index, ◌<◌, pos, refl, arith}
 use Rattle.std.specs.Str.{IsAscii, IsUtf8}
 use Rattle.std.proofs.lemmas.Str.{IsUtf8-from_ascii}
 use Rattle.jiff_core.proofs.CalendarLemmas.{days_in_month_bounds}
-use Rattle.al_base.specs.Times.{Day, day_after, digit, stamp_text}
+use Rattle.al_base.specs.Times.{Day, day_after, digit, two_digits, three_digits, four_digits, stamp_text}
 use Rattle.al_base.proofs.Days.{day_after_number}
 
 abbrev pub value : List ℕ → ℕ → ℕ
@@ -47,18 +47,31 @@ clock_read ms =
     let thousandths = three_digits_are (ms % 86400000 % 1000) (omega arith) in
     rw (hours, minutes, seconds, thousandths) (omega arith)
 
--- The bytes are of ASCII, one after the other.
-abbrev AreAscii : List ℕ → Type 0
-AreAscii [] = Unit {0}
-AreAscii (byte ∷ rest) = (byte < 128) × AreAscii rest
+-- The bytes are of ASCII.
+record AreAscii (bytes : List ℕ) : Type 0 where
+  each : IsAscii bytes
 
-ascii : (bytes : List ℕ) → AreAscii bytes → IsAscii bytes
-ascii [] h i = omega arith
-ascii (byte ∷ rest) h zero = h.0
-ascii (byte ∷ rest) h (suc i) = ascii rest h.1 i
+nothing : (i : ℕ) → slice_index [] i < 128
+nothing i = omega arith
 
-small_digit : (n unit : ℕ) → digit n unit < 128
-small_digit n unit = omega arith
+one_more : (byte : ℕ) (rest : List ℕ) → byte < 128 → IsAscii rest → (i : ℕ) → slice_index (byte ∷ rest) i < 128
+one_more byte rest small later zero = small
+one_more byte rest small later (suc i) = later i
+
+sign : {rest : List ℕ} (byte : ℕ) → byte < 128 → AreAscii rest → AreAscii (byte ∷ rest)
+sign {rest} byte small later = record { each = one_more byte rest small later.each }
+
+one : {rest : List ℕ} (n unit : ℕ) → AreAscii rest → AreAscii (digit n unit ∷ rest)
+one n unit later = sign (digit n unit) (omega arith) later
+
+two_more : {rest : List ℕ} (n : ℕ) → AreAscii rest → AreAscii (two_digits n ++ rest)
+two_more n later = one n 10 (one n 1 later)
+
+three_more : {rest : List ℕ} (n : ℕ) → AreAscii rest → AreAscii (three_digits n ++ rest)
+three_more n later = one n 100 (two_more n later)
+
+four_more : {rest : List ℕ} (n : ℕ) → AreAscii rest → AreAscii (four_digits n ++ rest)
+four_more n later = one n 1000 (three_more n later)
 
 -- so a stamp's text is UTF-8
 pub stamp_text_is_utf8 : (ms : ℕ) → IsUtf8 (stamp_text ms)
@@ -66,73 +79,11 @@ unfolding stamp_text
 stamp_text_is_utf8 ms =
     let day : Day = day_after (ms / 86400000) in
     let clock : ℕ = ms % 86400000 in
-    IsUtf8-from_ascii (stamp_text ms) (ascii (stamp_text ms) (
-      small_digit day.year 1000,
-      (
-        small_digit day.year 100,
-        (
-          small_digit day.year 10,
-          (
-            small_digit day.year 1,
-            (
-              omega arith,
-              (
-                small_digit day.month 10,
-                (
-                  small_digit day.month 1,
-                  (
-                    omega arith,
-                    (
-                      small_digit day.day 10,
-                      (
-                        small_digit day.day 1,
-                        (
-                          omega arith,
-                          (
-                            small_digit (clock / 3600000) 10,
-                            (
-                              small_digit (clock / 3600000) 1,
-                              (
-                                omega arith,
-                                (
-                                  small_digit (clock / 60000 % 60) 10,
-                                  (
-                                    small_digit (clock / 60000 % 60) 1,
-                                    (
-                                      omega arith,
-                                      (
-                                        small_digit (clock / 1000 % 60) 10,
-                                        (
-                                          small_digit (clock / 1000 % 60) 1,
-                                          (
-                                            omega arith,
-                                            (
-                                              small_digit (clock % 1000) 100,
-                                              (
-                                                small_digit (clock % 1000) 10,
-                                                (
-                                                  small_digit (clock % 1000) 1,
-                                                  (omega arith, tt),
-                                                ),
-                                              ),
-                                            ),
-                                          ),
-                                        ),
-                                      ),
-                                    ),
-                                  ),
-                                ),
-                              ),
-                            ),
-                          ),
-                        ),
-                      ),
-                    ),
-                  ),
-                ),
-              ),
-            ),
-          ),
-        ),
-      ),
-    ))
+    let end : AreAscii [] = record { each = nothing } in
+    let thousandths = three_more (clock % 1000) (sign 90 (omega arith) end) in
+    let seconds = two_more (clock / 1000 % 60) (sign 46 (omega arith) thousandths) in
+    let minutes = two_more (clock / 60000 % 60) (sign 58 (omega arith) seconds) in
+    let hours = two_more (clock / 3600000) (sign 58 (omega arith) minutes) in
+    let days = two_more day.day (sign 84 (omega arith) hours) in
+    let months = two_more day.month (sign 45 (omega arith) days) in
+    IsUtf8-from_ascii (stamp_text ms) (four_more day.year (sign 45 (omega arith) months)).each
