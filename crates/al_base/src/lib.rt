@@ -10,8 +10,6 @@ pub mod outside;
 pub mod severity;
 pub mod stamp;
 pub mod standard;
-#[cfg(test)]
-mod tests;
 pub mod text;
 pub mod type_id;
 

@@ -1,6 +1,8 @@
 //! The trusted edge: std's readers, writers and clock as the outside. They tell no bytes and no readings, but count their faults.
 
-ghost use Rattle.std.specs.Prelude.{◌≡◌, ◌≤◌};
+ghost use Rattle.al_base.specs.Limits.{last_stamp};
+ghost use Rattle.std.specs.Prelude.{◌≡◌, ◌≤◌, ◌/◌, min};
+ghost use Rattle.std.specs.Time.{system_time_nanos};
 
 use crate::outside::{Clock, ReadFault, Sink, Source, WriteFault};
 use crate::stamp::Stamp;
@@ -98,8 +100,10 @@ impl<R: rt::Clock + Drop> Clock for SystemClock<R> {
     }
 }
 
-/// The milliseconds since 1970, up to the last stamp.
-fn stamp_of(time: SystemTime) -> Stamp {
+/// The whole milliseconds since 1970, up to the last stamp.
+fn stamp_of(time: SystemTime) -> Stamp
+    ensures { result ≡ min last_stamp (system_time_nanos time / 1_000_000) }
+{
     match time.duration_since(UNIX_EPOCH) {
         Ok(since) => match u64::try_from(since.as_millis()) {
             Ok(ms) => Stamp::of(ms).unwrap_or(Stamp::LAST),

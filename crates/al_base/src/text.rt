@@ -127,21 +127,3 @@ impl Copied for Text {
         })
     }
 }
-
-#[cfg(test)]
-mod tests {
-    use super::*;
-    use std::test::Fail;
-
-    #[test]
-    fn reads_utf8_alone(rt: HostRuntime) -> Result<(), Fail> {
-        let alloc = rt.alloc();
-        for bytes in [b"".as_slice(), b"eth1", b"\xc3\xa9\xe2\x82\xac"] {
-            assert_eq!(rt; Text::read(alloc, bytes)?.bytes(), bytes);
-        }
-        for bytes in [b"\xff".as_slice(), b"\xc3", b"\xed\xa0\x80"] {
-            assert!(rt; matches!(Text::read(alloc, bytes), Err(TextFault::NotUtf8)));
-        }
-        Ok(())
-    }
-}

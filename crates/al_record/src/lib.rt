@@ -2,7 +2,5 @@
 #![tactic(auto)]
 
 pub mod history;
-#[cfg(test)]
-mod tests;
 
 pub use history::History;

@@ -2,6 +2,5 @@ pub mod Exact
 pub mod Faults
 pub mod Inventories
 pub mod Known
-pub mod Limits
 pub mod Places
 pub mod Same

@@ -7,8 +7,6 @@ pub mod laws;
 mod place;
 mod repeats;
 pub mod row;
-#[cfg(test)]
-mod tests;
 
 pub use fault::InventoryFault;
 pub use inventory::{Inventory, MAX_DECLARED};

@@ -1,6 +1,6 @@
-//! Cases of histories whose items were worked out by hand.
+//! Histories.
 
-use crate::History;
+use al_record::History;
 use std::test::Fail;
 
 #[derive(Drop)]

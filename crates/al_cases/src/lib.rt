@@ -1,0 +1,13 @@
+//! Cases of the crates of the vocabulary, patterns, matches and shelves, whose answers were worked out by hand.
+//!
+//! It has tests alone. They stand here, and not beside the code, since a crate with tests is proved twice.
+#![tactic(auto)]
+
+#[cfg(test)]
+mod base;
+#[cfg(test)]
+mod outside;
+#[cfg(test)]
+mod record;
+#[cfg(test)]
+mod types;
