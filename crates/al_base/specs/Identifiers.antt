@@ -1,6 +1,7 @@
 -- Identifiers of YANG, and alarm types, which are named by two of them.
-use Rattle.std.specs.Prelude.{◌≡◌, ℕ, ◌≤◌, ◌==◌, ◌||◌, ◌&&◌, Bool, false, IsTrue, List, [], ◌∷◌, ◌++◌, length}
+use Rattle.std.specs.Prelude.{◌≡◌, ℕ, ◌+◌, ◌≤◌, ◌==◌, nat_le, take, drop, position, ◌||◌, ◌&&◌, Bool, false, IsTrue, List, [], ◌∷◌, ◌++◌, length}
 use Rattle.std.specs.List.{list_all}
+use Rattle.std.specs.Option.{option_map_or}
 use Rattle.al_base.specs.Limits.{shortest_type, longest_type}
 use Rattle.std.specs.Char.{is_ascii_alphabetic, is_ascii_alphanumeric}
 
@@ -25,3 +26,9 @@ pub record IsTypeName (text : List ℕ) : Type 0 where
   pub has_identity : IsTrue (is_identifier identity)
   pub shortest : shortest_type ≤ length text
   pub longest : length text ≤ longest_type
+
+-- whether the text is the name of a type: two identifiers about its first colon
+unfoldable pub is_type_name : List ℕ → Bool
+is_type_name text =
+    nat_le (length text) longest_type
+    && option_map_or (λ colon. is_identifier (take colon text) && is_identifier (drop (colon + 1) text)) (position (λ byte. byte == 58) text) false

@@ -1,5 +1,8 @@
 -- How long texts and lists may be, and how great numbers.
-use Rattle.std.specs.Prelude.{◌≡◌, ◌≢◌, ℕ, ◌*◌, ◌≤◌, List, [], ◌∷◌, All, Contains, codes, length, IsUtf8}
+use Rattle.std.specs.Prelude.{◌≡◌, ◌≢◌, ℕ, ◌*◌, ◌/◌, ◌%◌, ◌≤◌, ◌==◌, nat_le, Bool, not, ◌&&◌, List, [], ◌∷◌, All, Contains, codes, length, IsUtf8}
+use Rattle.std.specs.Cmp.Lexicographic.{pointwise}
+use Rattle.std.specs.List.{list_all, list_any}
+use Rattle.std.specs.Str.{is_utf8}
 
 -- the last moment that a stamp can tell, 9999-12-31T23:59:59.999Z
 abbrev pub last_stamp : ℕ
@@ -91,6 +94,9 @@ pub record IsText (least most : ℕ) (text : List ℕ) : Type 0 where
   pub shortest : least ≤ length text
   pub longest : length text ≤ most
 
+unfoldable pub is_text : ℕ → ℕ → List ℕ → Bool
+is_text least most text = nat_le least (length text) && nat_le (length text) most && is_utf8 text
+
 abbrev pub IsResourceText : List ℕ → Type 0
 IsResourceText text = IsText 1 longest_resource text
 
@@ -128,6 +134,11 @@ pub record IsOperatorName (name : List ℕ) : Type 0 where
   pub printed : All (λ byte. (0x20 ≤ byte) × (byte ≤ 0x7E)) name
   pub foreign : name ≢ own_name
 
+unfoldable pub is_operator_name : List ℕ → Bool
+is_operator_name name =
+    nat_le 1 (length name) && nat_le (length name) longest_operator_name
+    && list_all (λ byte. nat_le 0x20 byte && nat_le byte 0x7E) name && not (pointwise ◌==◌ name own_name)
+
 -- how many milliseconds a second, a minute, an hour, a day and a week have
 abbrev pub age_units : List ℕ
 age_units = 1000 ∷ 60000 ∷ 3600000 ∷ 86400000 ∷ 604800000 ∷ []
@@ -139,3 +150,6 @@ pub record IsAge (age : ℕ) : Type 0 where
   pub few : count ≤ 65535
   pub known : Contains age_units unit
   pub is : age ≡ count * unit
+
+unfoldable pub is_age : ℕ → Bool
+is_age age = list_any (λ unit. (age % unit == 0) && nat_le (age / unit) 65535) age_units

@@ -3,6 +3,7 @@
 
 pub mod copied;
 pub mod event_type;
+pub mod laws;
 pub mod list;
 pub mod memory;
 pub mod operator;
