@@ -3,4 +3,5 @@ pub mod Derivations
 pub mod Found
 pub mod Heirs
 pub mod RowLemmas
+pub mod SoundTests
 pub mod Told

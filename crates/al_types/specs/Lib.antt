@@ -4,3 +4,4 @@ pub mod Inventories
 pub mod Known
 pub mod Places
 pub mod Same
+pub mod Sound

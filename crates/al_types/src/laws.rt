@@ -4,6 +4,7 @@ ghost use Rattle.al_base.specs.declared.severity.Severity.{Severity};
 ghost use Rattle.al_types.specs.Faults.{IsSound};
 ghost use Rattle.al_types.specs.Inventories.{Allows, DerivesFrom, InventoryView, IsOnlyRow, IsRowOf, allows, derives_from, row_of};
 ghost use Rattle.al_types.specs.Same.{same_identity, same_inventory, same_row};
+ghost use Rattle.al_types.specs.Sound.{is_sound};
 ghost use Rattle.al_types.specs.declared.row.Identity.{Identity};
 ghost use Rattle.al_types.specs.declared.row.Row.{Row};
 ghost use Rattle.std.specs.Bool.{Decides};
@@ -30,4 +31,9 @@ pub fn same_is_equal()
     ensures identities { (a b : Identity) → Decides (same_identity a b) (a ≡ b) }
     ensures rows { (a b : Row) → Decides (same_row a b) (a ≡ b) }
     ensures inventories { (a b : InventoryView) → Decides (same_inventory a b) (a ≡ b) }
+{}
+
+/// Lists make an inventory exactly where the test says so.
+pub fn inventories_are_tested()
+    ensures { (identities : List Identity) (rows : List Row) → Decides (is_sound identities rows) (IsSound identities rows) }
 {}
