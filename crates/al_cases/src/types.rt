@@ -53,31 +53,62 @@ fn equal_identities(alloc: Global, count: usize) -> Result<Vec<Identity>, Fail> 
     Ok(identities)
 }
 
+/// The fault of the lists, if they have one.
+fn fault_of(alloc: Global, identities: Vec<Identity>, rows: Vec<Row>) -> Option<InventoryFault> {
+    Inventory::build(alloc, identities, rows).err()
+}
+
+fn derives(alloc: Global, inventory: &Inventory, t: &str, base: &str) -> Result<bool, Fail> {
+    let pair = identity(alloc, t, base)?;
+    Ok(inventory.derives(&pair.name, &pair.base))
+}
+
+/// Whether the row of this type and qualifier is found, and is like the rows of `equal_rows`.
+fn finds(
+    alloc: Global,
+    inventory: &Inventory,
+    type_id: &str,
+    qualifier: &str,
+) -> Result<bool, Fail> {
+    let wanted = row(alloc, type_id, qualifier, 0)?;
+    Ok(inventory.row(&wanted.type_id, &wanted.qualifier) == Some(&wanted))
+}
+
+fn allows(alloc: Global, severities: u8, severity: Severity) -> Result<bool, Fail> {
+    Ok(row(alloc, "ex:a", "q", severities)?.allows(severity))
+}
+
 #[test]
-fn refuses_inventories(rt: HostRuntime) -> Result<(), Fail> {
+fn refuses_identities(rt: HostRuntime) -> Result<(), Fail> {
     let alloc = rt.alloc();
-    let pairs: [(&[(&str, &str)], InventoryFault); 4] = [
+    for (pairs, fault) in [
         (
-            &[("ex:a", "ex:b"), ("ex:b", ROOT)],
+            [("ex:a", "ex:b"), ("ex:b", ROOT)],
             InventoryFault::UnknownBase(0),
         ),
         (
-            &[(ROOT, ROOT), ("ex:a", ROOT)],
+            [(ROOT, ROOT), ("ex:a", ROOT)],
             InventoryFault::DuplicateIdentity(0),
         ),
         (
-            &[("ex:a", "ex:b"), ("ex:a", ROOT)],
+            [("ex:a", "ex:b"), ("ex:a", ROOT)],
             InventoryFault::DuplicateIdentity(1),
         ),
         (
-            &[("ex:b", ROOT), ("ex:a", "ex:a")],
+            [("ex:b", ROOT), ("ex:a", "ex:a")],
             InventoryFault::UnknownBase(1),
         ),
-    ];
-    for (declared, fault) in &pairs {
-        let built = Inventory::build(alloc, identities(alloc, declared)?, equal_rows(alloc, 2)?);
-        assert_eq!(rt; built.err(), Some(*fault), "{declared:?}");
+    ] {
+        let declared = identities(alloc, pairs.as_slice())?;
+        let rows = equal_rows(alloc, 2)?;
+        assert_eq!(rt; fault_of(alloc, declared, rows), Some(fault));
     }
+    Ok(())
+}
+
+#[test]
+fn refuses_too_many_and_equal(rt: HostRuntime) -> Result<(), Fail> {
+    let alloc = rt.alloc();
     for (names, rows, fault) in [
         (0, 1, None),
         (0, 2, Some(InventoryFault::DuplicateRow(1))),
@@ -85,25 +116,33 @@ fn refuses_inventories(rt: HostRuntime) -> Result<(), Fail> {
         (2000, 0, Some(InventoryFault::DuplicateIdentity(1))),
         (2001, 0, Some(InventoryFault::TooMany)),
     ] {
-        let built = Inventory::build(
-            alloc,
-            equal_identities(alloc, names)?,
-            equal_rows(alloc, rows)?,
-        );
-        assert_eq!(rt; built.err(), fault, "{names} identities, {rows} rows");
+        let declared = equal_identities(alloc, names)?;
+        let rows = equal_rows(alloc, rows)?;
+        assert_eq!(rt; fault_of(alloc, declared, rows), fault);
     }
     Ok(())
 }
 
+/// An inventory of two types, the second derived from the first.
+fn two_types(alloc: Global) -> Result<Inventory, Fail> {
+    let declared = identities(alloc, &[("ex:b", ROOT), ("ex:c", "ex:b")])?;
+    Ok(Inventory::build(alloc, declared, Vec::new(alloc))?)
+}
+
+/// In two types and a copy of them.
+fn derives_in_two(alloc: Global, t: &str, base: &str) -> Result<bool, Fail> {
+    let inventory = two_types(alloc)?;
+    let copy = inventory.copy(alloc)?;
+    Ok(copy == inventory && derives(alloc, &copy, t, base)?)
+}
+
+fn derives_in_none(alloc: Global, t: &str, base: &str) -> Result<bool, Fail> {
+    derives(alloc, &Inventory::empty(alloc), t, base)
+}
+
 #[test]
 fn follows_bases(rt: HostRuntime) -> Result<(), Fail> {
-    let alloc = rt.alloc();
-    let declared = identities(alloc, &[("ex:b", ROOT), ("ex:c", "ex:b")])?;
-    let inventory = Inventory::build(alloc, declared, equal_rows(alloc, 1)?)?.copy(alloc)?;
-    let empty = Inventory::empty(alloc);
-    assert!(rt; inventory == inventory.copy(alloc)?);
-    assert!(rt; inventory != empty);
-    for (t, base, derives, derives_alone) in [
+    for (t, base, in_two, in_none) in [
         ("ex:c", "ex:b", true, false),
         ("ex:c", ROOT, true, false),
         ("ex:c", "ex:c", true, true),
@@ -112,15 +151,10 @@ fn follows_bases(rt: HostRuntime) -> Result<(), Fail> {
         ("ex:a", ROOT, false, false),
         ("ex:a", "ex:a", true, true),
     ] {
-        let pair = identity(alloc, t, base)?;
+        assert_eq!(rt; derives_in_two(rt.alloc(), t, base)?, in_two, "{t} {base}");
         assert_eq!(rt;
-            inventory.derives(&pair.name, &pair.base),
-            derives,
-            "{t} {base}"
-        );
-        assert_eq!(rt;
-            empty.derives(&pair.name, &pair.base),
-            derives_alone,
+            derives_in_none(rt.alloc(), t, base)?,
+            in_none,
             "{t} {base}"
         );
     }
@@ -136,26 +170,23 @@ fn finds_rows(rt: HostRuntime) -> Result<(), Fail> {
         ("ex:a", "r", false),
         ("ex:b", "q", false),
     ] {
-        let wanted = row(alloc, type_id, qualifier, 0)?;
-        assert_eq!(rt;
-            inventory.row(&wanted.type_id, &wanted.qualifier),
-            Some(&wanted).filter(|_| found)
-        );
+        assert_eq!(rt; finds(alloc, &inventory, type_id, qualifier)?, found);
     }
-    // indeterminate and major, all, and a bit that stands for none
-    for (severities, allowed) in [
-        (0b01001, [true, false, false, true, false]),
-        (0, [true; 5]),
-        (0b100000, [false; 5]),
+    Ok(())
+}
+
+// Sets of severities: indeterminate and major, then none, then a bit that stands for no severity.
+#[test]
+fn allows_severities(rt: HostRuntime) -> Result<(), Fail> {
+    for (severities, severity, allowed) in [
+        (0b01001, Severity::Indeterminate, true),
+        (0b01001, Severity::Warning, false),
+        (0b01001, Severity::Major, true),
+        (0b01001, Severity::Critical, false),
+        (0, Severity::Critical, true),
+        (0b100000, Severity::Critical, false),
     ] {
-        let tested = row(alloc, "ex:a", "q", severities)?;
-        for (severity, allowed) in Severity::ALL.iter().zip(&allowed) {
-            assert_eq!(rt;
-                tested.allows(*severity),
-                *allowed,
-                "{severities} {severity:?}"
-            );
-        }
+        assert_eq!(rt; allows(rt.alloc(), severities, severity)?, allowed);
     }
     Ok(())
 }
