@@ -1,10 +1,12 @@
 pub mod Keys
 pub mod MatchForms
 pub mod Matches
+pub mod Matching
 pub mod OidReading
 pub mod Oids
 pub mod PathReading
 pub mod Paths
 pub mod Resources
+pub mod Spellings
 pub mod StepReading
 pub mod TextStops

@@ -13,6 +13,7 @@ pub mod GrammarLemmas
 pub mod ItemFaults
 pub mod LanguageLemmas
 pub mod Marks
+pub mod MembershipLaws
 pub mod OneFault
 pub mod OnlyLemmas
 pub mod PatternLemmas

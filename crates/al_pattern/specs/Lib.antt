@@ -4,6 +4,7 @@ pub mod Classes
 pub mod Faults
 pub mod Language
 pub mod Letters
+pub mod Membership
 pub mod Patterns
 pub mod Places
 pub mod Programs

@@ -1,6 +1,8 @@
 //! What holds of all patterns.
 
-ghost use Rattle.std.specs.Prelude.{◌≡◌, ◌↔◌, ℕ, List, Some, None};
+ghost use Rattle.std.specs.Prelude.{◌≡◌, ◌↔◌, ℕ, IsTrue, List, Some, None};
+ghost use Rattle.al_pattern.specs.Language.{IsInLanguage};
+ghost use Rattle.al_pattern.specs.Membership.{is_in_language};
 ghost use Rattle.al_pattern.specs.Places.{IsPlaced};
 ghost use Rattle.al_pattern.specs.declared.fault.PatternFault.{PatternFault};
 ghost use Rattle.al_pattern.specs.Reading.{tree_of, first_fault};
@@ -24,4 +26,10 @@ pub fn no_fault()
 /// The first fault of a text stands where the grammar says, and no other does.
 pub fn fault_place()
     ensures { (text : List ℕ) (fault : PatternFault) → (first_fault text ≡ Some fault ↔ IsPlaced text fault) }
+{}
+
+/// Whether a text is in the language of a pattern, as a function, is what the relation says.
+pub fn language_is_decided()
+    ensures { (pattern text : List ℕ)
+        → (IsTrue (is_in_language pattern text) ↔ IsInLanguage (tree_of pattern) text) }
 {}

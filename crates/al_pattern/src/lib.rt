@@ -5,7 +5,7 @@ mod bits;
 mod builder;
 mod class;
 mod fault;
-mod laws;
+pub mod laws;
 mod letter;
 mod node;
 mod pattern;
@@ -14,7 +14,6 @@ mod token;
 mod walk;
 
 pub use fault::PatternFault;
-pub use laws::{no_fault, one_tree, tree_of_text};
 pub use pattern::Pattern;
 
 #[cfg(test)]

@@ -3,6 +3,7 @@
 ghost use Rattle.std.specs.Prelude.{◌≡◌, ◌↔◌, ◌-◌, ℕ, List, length, None, ◌⊎◌, IsTrue, IfOk, IfErr, IsOkUnless, MatchResult, IsUtf8, chars};
 ghost use Rattle.al_pattern.specs.Faults.{Fails};
 ghost use Rattle.al_pattern.specs.Language.{IsInLanguage};
+ghost use Rattle.al_pattern.specs.Membership.{is_in_language};
 ghost use Rattle.al_pattern.specs.Places.{IsPlaced};
 ghost use Rattle.al_pattern.specs.Reading.{tree_of, first_fault, IsFirstFault, fault_named, reading};
 ghost use Rattle.al_pattern.specs.Trees.{Choice, IsSpelled};
@@ -68,7 +69,8 @@ impl Pattern {
     /// The text is walked once. A step takes each node of the pattern once, and no memory is taken.
     pub fn matches(&self, text: &[u8]) -> bool
         requires { IsUtf8 text.now }
-        ensures { IsTrue result ↔ IsInLanguage (tree_of self.now) (chars text.now) }
+        ensures language { IsTrue result ↔ IsInLanguage (tree_of self.now) (chars text.now) }
+        ensures value { result ≡ is_in_language self.now (chars text.now) }
     {
         match str::from_utf8(text) {
             Ok(text) => accepts(&self.nodes, self.nullable, text),

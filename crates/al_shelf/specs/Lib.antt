@@ -1,2 +1,4 @@
+pub mod Deriving
 pub mod Places
 pub mod Takes
+pub mod Taking
