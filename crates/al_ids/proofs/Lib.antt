@@ -4,9 +4,11 @@ pub mod MatchFaults
 pub mod MatchKinds
 pub mod OidFronts
 pub mod OidsRead
+pub mod MatchingLaws
 pub mod PathCuts
 pub mod PathStops
 pub mod PathsRead
+pub mod SpellingLemmas
 pub mod StepMatches
 pub mod TextStopLemmas
 pub mod XPathStops

@@ -8,7 +8,7 @@ use Rattle.al_ids.specs.Oids.{is_arc, IsRooted, IsOid}
 use Rattle.al_ids.specs.Paths.{Step, path_text, IsPath}
 use Rattle.al_ids.specs.Matches.{is_rooted, IsXPath, IsPatternMatch, TakesPath, TakesOid, TakesPlain, Matches}
 
-steps_rooted : (steps : List Step) → steps ≢ [] → is_rooted (path_text steps) ≡ true
+pub steps_rooted : (steps : List Step) → steps ≢ [] → is_rooted (path_text steps) ≡ true
 steps_rooted [] some = absurd (some refl)
 steps_rooted (s ∷ steps) some = refl
 

@@ -28,7 +28,7 @@ IsArc arc = IsTrue (is_arc arc)
 abbrev dotted : List ℕ → List ℕ
 dotted arc = 46 ∷ arc
 
-abbrev no_dot : ℕ → Bool
+abbrev pub no_dot : ℕ → Bool
 no_dot byte = not (byte == 46)
 
 digit_no_dot : (byte : ℕ) → is_ascii_digit byte ≡ true → no_dot byte ≡ true
@@ -47,7 +47,7 @@ arc_digits : (arc : List ℕ) → IsArc arc → list_all is_ascii_digit arc ≡ 
 arc_digits [] is = refl
 arc_digits (byte ∷ digits) is = and_left (list_all is_ascii_digit (byte ∷ digits)) (not (byte == 48) || is_empty digits) is
 
-arc_no_dot : (arc : List ℕ) → IsArc arc → list_all no_dot arc ≡ true
+pub arc_no_dot : (arc : List ℕ) → IsArc arc → list_all no_dot arc ≡ true
 arc_no_dot arc is = digits_no_dot arc (arc_digits arc is)
 
 joined : (arc : List ℕ) (more : List (List ℕ)) → join_with_byte 46 (arc ∷ more) ≡ arc ++ flat_map dotted more

@@ -30,7 +30,7 @@ pub record AreWords (owner : Option (List ℕ)) (name : List ℕ) : Type 0 where
   pub owner_goes_on : IfSome owner (λ o. list_all continues_identifier o ≡ true)
   pub name_goes_on : list_all continues_identifier name ≡ true
 
-names_are_words : (owner : Option (List ℕ)) (name : List ℕ) → AreNames owner name → AreWords owner name
+pub names_are_words : (owner : Option (List ℕ)) (name : List ℕ) → AreNames owner name → AreWords owner name
 names_are_words None name names = record { owner_goes_on = tt; name_goes_on = all_continue name names.1 }
 names_are_words (Some o) name names = record { owner_goes_on = all_continue o names.0; name_goes_on = all_continue name names.1 }
 
@@ -63,19 +63,19 @@ names_passed (Some o) name rest words ends =
 
 -- ---- predicates
 
-same_byte : (byte : ℕ) → (byte == byte) ≡ true
+pub same_byte : (byte : ℕ) → (byte == byte) ≡ true
 same_byte byte = grind (arith, nat_tests)
 
-predicate_words : (p : Predicate) → IsPredicate p → AreWords p.defined_in p.name
+pub predicate_words : (p : Predicate) → IsPredicate p → AreWords p.defined_in p.name
 predicate_words p is = elim is.names [
   | inl names ↦ names_are_words p.defined_in p.name names
   | inr dot ↦ rw (dot.0, dot.1) (record { owner_goes_on = tt; name_goes_on = refl })
 ]
 
-equals_ends : (rest : List ℕ) → EndsNames (61 ∷ rest)
+pub equals_ends : (rest : List ℕ) → EndsNames (61 ∷ rest)
 equals_ends rest = record { no_word = refl; no_colon = refl }
 
-quote_stops : (quote : ℕ) (rest : List ℕ) → stops (is_inside quote) (quote ∷ rest) ≡ true
+pub quote_stops : (quote : ℕ) (rest : List ℕ) → stops (is_inside quote) (quote ∷ rest) ≡ true
 quote_stops quote rest = rw (same_byte quote) refl
 
 pub predicate_parts : (p : Predicate) (rest : List ℕ) → IsPredicate p → parts_of (91 ∷ (qualified p.defined_in p.name ++ (61 ∷ p.quote ∷ (p.value ++ (p.quote ∷ 93 ∷ rest))))) ≡ Some (record { name = p.name; value = p.value; rest = rest })

@@ -2,6 +2,7 @@
 #![tactic(auto)]
 
 pub mod key;
+pub mod laws;
 #[cfg(test)]
 mod match_tests;
 mod oid;

@@ -2,6 +2,7 @@
 
 ghost use Rattle.al_ids.specs.MatchForms.{IsFormFault, IsOfForm, text_of};
 ghost use Rattle.al_ids.specs.Matches.{IsMatch, IsOther, IsSized, IsXPathStop, Matches, is_rooted as is_rooted_of};
+ghost use Rattle.al_ids.specs.Matching.{matches};
 ghost use Rattle.al_ids.specs.Oids.{IsOid};
 ghost use Rattle.al_ids.specs.Resources.{IsOfKind};
 ghost use Rattle.al_pattern.specs.Reading.{first_fault};
@@ -112,16 +113,10 @@ impl ResourceMatch {
 
     /// Whether the match takes the resource. No memory is taken.
     pub fn matches(&self, resource: &Resource) -> bool
-        ensures { IsTrue result ↔ Matches self.now resource.now }
+        ensures relation { IsTrue result ↔ Matches self.now resource.now }
+        ensures value { result ≡ matches self.now resource.now }
     {
-        let text = resource.text().bytes();
-        match &self.form {
-            Form::Path(path) => {
-                is_of(resource, Kind::Path) && steps::takes_path(path.bytes(), text)
-            }
-            Form::Oid(front) => { is_of(resource, Kind::Oid) && oid::is_front(front.bytes(), text) }
-            Form::Pattern(pattern) => is_of(resource, Kind::Plain) && pattern.matches(text),
-        }
+        self.form.takes(resource)
     }
 
     /// The text that was read.
@@ -133,6 +128,23 @@ impl ResourceMatch {
             Form::Path(text) => text.bytes(),
             Form::Oid(text) => text.bytes(),
             Form::Pattern(pattern) => pattern.source(),
+        }
+    }
+}
+
+impl Form {
+    /// Whether a match of this form takes the resource.
+    fn takes(&self, resource: &Resource) -> bool
+        requires { IsOfForm self.now }
+        ensures { IsTrue result ↔ Matches (text_of self.now) resource.now }
+    {
+        let text = resource.text().bytes();
+        match self {
+            Form::Path(path) => {
+                is_of(resource, Kind::Path) && steps::takes_path(path.bytes(), text)
+            }
+            Form::Oid(front) => { is_of(resource, Kind::Oid) && oid::is_front(front.bytes(), text) }
+            Form::Pattern(pattern) => is_of(resource, Kind::Plain) && pattern.matches(text),
         }
     }
 }
