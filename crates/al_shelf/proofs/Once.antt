@@ -1,7 +1,8 @@
 -- Lists in which one item at most passes a test, and what an insertion keeps apart.
-use Rattle.std.proofs.Common.{◌≡◌, ℕ, ◌<◌, ◌≤◌, Bool, true, false, not, cond, List, [], ◌∷◌, zero, suc, length, get_or, take, drop, refl, ◌∙◌, ap, arith}
+use Rattle.std.proofs.Common.{◌≡◌, ℕ, ◌+◌, ◌<◌, ◌≤◌, Bool, true, false, not, cond, List, [], ◌∷◌, zero, suc, length, get_or, take, drop, refl, ◌∙◌, ap, arith}
 use Rattle.std.proofs.lemmas.Bool.{false_from_ne_true}
 use Rattle.std.proofs.lemmas.List.Elements.{All-append, All-cons, All-drop, All-take}
+use Rattle.std.proofs.lemmas.List.Filters.{length-filter_both}
 use Rattle.std.proofs.lemmas.List.Kept.{AllPairs-cons}
 use Rattle.std.specs.List.{All, AllPairs, filter, insert, remove}
 
@@ -16,6 +17,25 @@ all_others p (x ∷ xs) none =
     let here : p x ≡ false = none 0 x (omega arith) in
     let rest : kept ≡ xs = all_others p xs (λ k d lt. none (suc k) d (omega arith)) in
     ap (λ b. cond (not b) (x ∷ kept) kept) here ∙ ap (λ l. x ∷ l) rest
+
+at_most_one : {X : Type 0} (b : Bool) (x : X) (xs : List X) → length (cond b (x ∷ xs) xs) ≤ length xs + 1
+at_most_one true x xs = omega arith
+at_most_one false x xs = omega arith
+
+-- where one passes, there are fewer others
+pub fewer_others : {X : Type 0} (p : X → Bool) (xs : List X) (i : ℕ) (d : X) → i < length xs → p (get_or xs i d) ≡ true
+    → length (filter (λ x. not (p x)) xs) + 1 ≤ length xs
+fewer_others p [] i d lt passes = absurd (omega arith)
+fewer_others p (x ∷ xs) zero d lt passes =
+    let kept = filter (λ y. not (p y)) xs in
+    let all = length-filter_both p (λ y. not (p y)) (λ y. refl) xs in
+    let here = ap (λ b. length (cond (not b) (x ∷ kept) kept)) passes in
+    omega arith
+fewer_others p (x ∷ xs) (suc i) d lt passes =
+    let kept = filter (λ y. not (p y)) xs in
+    let rest = fewer_others p xs i d (omega arith) passes in
+    let here = at_most_one (not (p x)) x kept in
+    omega arith
 
 -- without the one that passes
 pub one_left_out : {X : Type 0} (p : X → Bool) (xs : List X) (i : ℕ) (d : X) → PassesOnce p xs → i < length xs → p (get_or xs i d) ≡ true

@@ -1,8 +1,9 @@
 -- What putting a shelf and leaving one out makes of a list of shelves.
-use Rattle.std.proofs.Common.{◌≡◌, ◌≢◌, ℕ, ◌+◌, ◌<◌, ◌≤◌, Bool, true, false, not, cond, ltb, List, [], length, get_or, refl, sym, ◌∙◌, ap, arith}
+use Rattle.std.proofs.Common.{◌≡◌, ◌≢◌, ℕ, ◌+◌, ◌<◌, ◌≤◌, Bool, true, false, not, cond, ltb, inl, inr, List, [], length, get_or, refl, sym, ◌∙◌, ap, subst, arith}
 use Rattle.std.proofs.lemmas.Bool.{false≢true, ltb-false, not-true}
 use Rattle.std.proofs.lemmas.List.Edits.{length-insert, length-remove}
 use Rattle.std.proofs.lemmas.List.Elements.{filter_passes}
+use Rattle.std.proofs.lemmas.List.Filters.{length-filter_both}
 use Rattle.std.proofs.lemmas.List.Folds.{find_at}
 use Rattle.std.proofs.lemmas.List.Kept.{AllPairs-filter}
 use Rattle.std.proofs.lemmas.List.Quantifiers.{position-Some}
@@ -10,15 +11,16 @@ use Rattle.std.proofs.lemmas.List.Sums.{fails_before_first, position_or_len_is}
 use Rattle.std.proofs.lemmas.Option.{none-some, same_Some, slice_get_past, slice_get-get_or}
 use Rattle.std.specs.List.{All, AllPairs, insert, remove, position_or_len}
 use Rattle.std.specs.Option.{option_map}
-use Rattle.std.specs.Prelude.{Option, None, Some, Result, Ok, Err, unwrap_or, slice_get, suc}
+use Rattle.std.specs.Prelude.{◌⊎◌, IsSome, Option, None, Some, Result, Ok, Err, unwrap_or, slice_get, suc}
 use lib.Pointwise.{bytes_decides}
+use Rattle.al_base.specs.Limits.{most_shelves}
 use Rattle.al_shelf.specs.Places.{AreShelves, is_named, place_of, shelf_of, without, place_for}
 use Rattle.al_shelf.specs.declared.fault.ShelfFault.{ShelfFault}
 use Rattle.al_shelf.specs.declared.fault.ShelfFault.TheVariants.{TooMany, Memory}
 use Rattle.al_shelf.specs.declared.shelf.Shelf.{Shelf}
 use Rattle.al_shelf.specs.declared.spot.Spot.{Spot}
 use Rattle.al_shelf.specs.declared.spot.Spot.TheVariants.{First, Last, Before, After, Keep}
-use Rattle.al_shelf.proofs.Once.{PassesOnce, all_others, one_left_out, pairs_inserted}
+use Rattle.al_shelf.proofs.Once.{PassesOnce, all_others, fewer_others, one_left_out, pairs_inserted}
 
 -- some shelf
 bare : Shelf
@@ -77,15 +79,26 @@ others_differ : (name : List ℕ) (shelves : List Shelf) → All (λ shelf. shel
 others_differ name shelves k d lt =
     other_name name (get_or (without name shelves) k d) (not-true _ (filter_passes (λ shelf. not (is_named name shelf)) shelves k d lt))
 
-pub put_sound : (shelf : Shelf) (shelves : List Shelf) (place : ℕ) → AreShelves shelves → place ≤ length (without shelf.name shelves)
-    → length (without shelf.name shelves) + 1 ≤ 64 → AreShelves (insert (without shelf.name shelves) place shelf)
-put_sound shelf shelves place sound within room =
-    let others = without shelf.name shelves in
-    let apart : AllPairs (λ a b. a.name ≢ b.name) others = AllPairs-filter (λ a b. a.name ≢ b.name) (λ s. not (is_named shelf.name s)) shelves sound.names in
+-- the names of the others and that of the shelf are distinct
+pub inserted_sound : (shelf : Shelf) (shelves others : List Shelf) (place : ℕ) → others ≡ without shelf.name shelves → AreShelves others → place ≤ length others
+    → length others < most_shelves → AreShelves (insert others place shelf)
+inserted_sound shelf shelves others place same sound within room =
+    let differ : All (λ s. s.name ≢ shelf.name) others = rw same (others_differ shelf.name shelves) in
     record {
       few = omega (arith, length-insert others place shelf within);
-      names = pairs_inserted (λ a b. a.name ≢ b.name) (λ a b differ same. differ (sym same)) others place shelf within apart (others_differ shelf.name shelves);
+      names = pairs_inserted (λ a b. a.name ≢ b.name) (λ a b differ same. differ (sym same)) others place shelf within sound.names differ;
     }
+
+others_sound : (name : List ℕ) (shelves : List Shelf) → AreShelves shelves → AreShelves (without name shelves)
+others_sound name shelves sound =
+    let fewer = length-filter_both (is_named name) (λ s. not (is_named name s)) (λ s. refl) shelves in
+    let few = sound.few in
+    record { few = omega arith; names = AllPairs-filter (λ a b. a.name ≢ b.name) (λ s. not (is_named name s)) shelves sound.names }
+
+pub put_sound : (shelf : Shelf) (shelves : List Shelf) (place : ℕ) → AreShelves shelves → place ≤ length (without shelf.name shelves)
+    → length (without shelf.name shelves) < most_shelves → AreShelves (insert (without shelf.name shelves) place shelf)
+put_sound shelf shelves place sound within room =
+    inserted_sound shelf shelves (without shelf.name shelves) place refl (others_sound shelf.name shelves sound) within room
 
 found_within : (name : List ℕ) (shelves : List Shelf) (place : ℕ) → place_of name shelves ≡ Some place → place < length shelves
 found_within name shelves place found = (position-Some (is_named name) shelves place bare found).0
@@ -107,7 +120,7 @@ kept name shelves (Some place) sound e =
     let lt = found_within name shelves place e in
     omega arith
 
-kept_within : (name : List ℕ) (shelves : List Shelf) → AreShelves shelves
+pub kept_within : (name : List ℕ) (shelves : List Shelf) → AreShelves shelves
     → unwrap_or (place_of name shelves) (length (without name shelves)) ≤ length (without name shelves)
 kept_within name shelves sound = kept name shelves (place_of name shelves) sound refl
 
@@ -128,6 +141,23 @@ spot_within (After point) name shelves place sound e = after_within point (witho
 spot_within Keep name shelves place sound e =
     let same = same_Some (unwrap_or (place_of name shelves) (length (without name shelves))) place e in
     let le = kept_within name shelves sound in
+    omega arith
+
+-- where a shelf of the name stands, there are fewer others
+fewer_named : (name : List ℕ) (shelves : List Shelf) (found : Option ℕ) → place_of name shelves ≡ found → IsSome found → length (without name shelves) + 1 ≤ length shelves
+fewer_named name shelves None e some = absurd (false≢true some)
+fewer_named name shelves (Some place) e some =
+    let at = position-Some (is_named name) shelves place bare e in
+    fewer_others (is_named name) shelves place bare at.0 at.1
+
+-- the room that is left where the shelf of a name goes
+pub room_left : (name : List ℕ) (shelves : List Shelf) (spare left : ℕ) → (0 < spare) ⊎ IsSome (place_of name shelves)
+    → left + length (without name shelves) ≡ spare + length shelves → 0 < left
+room_left name shelves spare left (inl some) e =
+    let fewer = length-filter_both (is_named name) (λ s. not (is_named name s)) (λ s. refl) shelves in
+    omega arith
+room_left name shelves spare left (inr named) e =
+    let fewer = fewer_named name shelves (place_of name shelves) refl named in
     omega arith
 
 -- answers differ

@@ -3,15 +3,21 @@ use Rattle.std.specs.Prelude.{◌≡◌, ◌≢◌, ℕ, ◌≤◌, Bool, not, �
 use Rattle.std.specs.Cmp.Lexicographic.{pointwise}
 use Rattle.std.specs.List.{AllPairs, insert}
 use Rattle.std.specs.Option.{option_map}
+use Rattle.al_base.specs.Limits.{most_shelves}
 use Rattle.al_shelf.specs.declared.shelf.Shelf.{Shelf}
 use Rattle.al_shelf.specs.declared.spot.Placed.{Placed}
 use Rattle.al_shelf.specs.declared.spot.Placed.TheVariants.{Made, Replaced}
 use Rattle.al_shelf.specs.declared.spot.Spot.{Spot}
 use Rattle.al_shelf.specs.declared.spot.Spot.TheVariants.{First, Last, Before, After, Keep}
 
+-- the shelves in their order, and for how many more memory is at hand
+pub record ShelvesView : Type 0 where
+  pub shelves : List Shelf
+  pub spare : ℕ
+
 -- At most 64 shelves, each of another name.
 pub record AreShelves (shelves : List Shelf) : Type 0 where
-  pub few : length shelves ≤ 64
+  pub few : length shelves ≤ most_shelves
   pub names : AllPairs (λ a b. a.name ≢ b.name) shelves
 
 abbrev pub is_named : List ℕ → Shelf → Bool

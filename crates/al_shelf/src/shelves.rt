@@ -1,5 +1,8 @@
 ghost use Rattle.std.specs.List.{All, insert};
-ghost use Rattle.std.specs.Prelude.{◌≡◌, ◌≢◌, ◌↔◌, ◌<◌, ◌+◌, ◌≤◌, [], IfOk, IfSome, IsSome, IsTrue, None, OnErr, OnOk, Some, length, slice_get};
+ghost use Rattle.std.specs.Option.{option_and_then};
+ghost use Rattle.std.specs.Prelude.{◌≡◌, ◌≢◌, ◌↔◌, ◌<◌, ◌+◌, ◌≤◌, ◌⊎◌, [], IfOk, IfSome, IsSome, IsTrue, None, OnErr, OnOk, Some, length, position, slice_get};
+ghost use Rattle.al_base.specs.Limits.{most_shelves};
+ghost use Rattle.al_shelf.specs.Places.{placed};
 
 use crate::fault::ShelfFault;
 use crate::shelf::Shelf;
@@ -13,20 +16,19 @@ use std::marker::Model;
 /// The most shelves that there are.
 pub const MAX_SHELVES: usize = 64;
 
-/// The shelves in their order (RFC 8632, container `alarm-shelving`), which contracts see as a list.
+/// The shelves in their order (RFC 8632, container `alarm-shelving`), and for how many more memory is at hand.
 #[derive(Debug, Drop)]
 pub struct Shelves {
     shelves: Vec<Shelf>,
 }
 
 impl Model for Shelves {
-    ghost use Rattle.std.specs.Prelude.{List};
-    ghost use Rattle.al_shelf.specs.declared.shelf.Shelf.{Shelf};
-    ghost use Rattle.al_shelf.specs.Places.{AreShelves};
+    ghost use Rattle.std.specs.Prelude.{◌-◌, vec_capacity, vec_len};
+    ghost use Rattle.al_shelf.specs.Places.{AreShelves, ShelvesView};
 
-    ghost Value = { List Shelf };
+    ghost Value = { ShelvesView };
 
-    ghost view = { λ s. s.shelves.items };
+    ghost view = { λ s. record { shelves = s.shelves.items; spare = vec_capacity s.shelves - vec_len s.shelves } };
 
     ghost invariant = { λ s. AreShelves s.shelves.items };
 }
@@ -35,9 +37,9 @@ impl Shelves {
     ghost use Rattle.al_shelf.specs.Places.{AreShelves, IsPut, place_for, place_of, shelf_of, without};
     ghost use Rattle.al_shelf.specs.Takes.{IsFirstShelf};
 
-    /// No shelves.
+    /// No shelves. They take no memory.
     pub fn new(alloc: Global) -> Shelves
-        ensures { result ≡ [] }
+        ensures { result.shelves ≡ [] }
     {
         Shelves {
             shelves: Vec::new(alloc),
@@ -45,29 +47,29 @@ impl Shelves {
     }
 
     pub fn len(&self) -> usize
-        ensures len { result ≡ length self.now }
-        ensures sound { AreShelves self.now }
+        ensures len { result ≡ length self.now.shelves }
+        ensures sound { AreShelves self.now.shelves }
     {
         self.shelves.len()
     }
 
     pub fn is_empty(&self) -> bool
-        ensures { IsTrue result ↔ (self.now ≡ []) }
+        ensures { IsTrue result ↔ (self.now.shelves ≡ []) }
     {
         self.shelves.is_empty()
     }
 
     /// The shelf at this position.
     pub fn at(&self, i: usize) -> Option<&Shelf>
-        ensures found { IfSome result (λ shelf. slice_get self.now i ≡ Some shelf.now) }
-        ensures none { (result ≡ None) ↔ (length self.now ≤ i) }
+        ensures found { IfSome result (λ shelf. slice_get self.now.shelves i ≡ Some shelf.now) }
+        ensures none { (result ≡ None) ↔ (length self.now.shelves ≤ i) }
     {
         self.shelves.get(i)
     }
 
     /// The position of the first shelf that takes the alarms of the key.
     pub fn first(&self, inv: &Inventory, key: &AlarmKey) -> Option<usize>
-        ensures { IsFirstShelf inv.now key.now self.now result }
+        ensures { IsFirstShelf inv.now key.now self.now.shelves result }
     {
         for (n, shelf) in self.shelves.iter().enumerate() {
             if shelf.takes(inv, key) {
@@ -77,100 +79,20 @@ impl Shelves {
         None
     }
 
-    /// Puts the shelf at its spot, in place of the one that has its name.
-    pub fn place(&mut self, shelf: Shelf, spot: Spot) -> Result<Placed, ShelfFault>
-        ensures ok { IfOk result (λ placed. IsPut self.old shelf spot placed self.new) }
-        ensures no_point { (result ≡ Err ShelfFault.NoPoint) ↔ (place_for spot shelf.name self.old ≡ None) }
-        ensures too_many { (result ≡ Err ShelfFault.TooMany)
-            ↔ (IsSome (place_for spot shelf.name self.old) × (MAX_SHELVES < length (without shelf.name self.old) + 1)) }
-        ensures refused { OnErr result (self.new ≡ self.old) }
-    {
-        let Some(place) = self.place_for(&spot, &shelf.name) else {
-            return Err(ShelfFault::NoPoint);
-        };
-        match self.place_of(&shelf.name) {
-            Some(before) => {
-                self.replace(before, place, shelf);
-                Ok(Placed::Replaced(place))
-            }
-            None => {
-                self.add(place, shelf)?;
-                Ok(Placed::Made(place))
-            }
-        }
-    }
-
-    /// Takes out the shelf of this name.
-    pub fn remove(&mut self, name: &Text) -> Option<Shelf>
-        ensures answer { result ≡ shelf_of name.now self.old }
-        ensures none { (result ≡ None) ↔ All (λ shelf. shelf.name ≢ name.now) self.old }
-        ensures list { self.new ≡ without name.now self.old }
-    {
-        let Some(place) = self.place_of(name) else {
-            return None;
-        };
-        Some(self.shelves.remove(place))
-    }
-
-    /// Puts the shelf at this position among the others, where one at another has its name.
-    fn replace(&mut self, before: usize, place: usize, shelf: Shelf)
-        requires named { place_of shelf.name self.old ≡ Some before }
-        requires within { place ≤ length (without shelf.name self.old) }
-        ensures { self.new ≡ insert (without shelf.name self.old) place shelf }
-    {
-        let _ = self.shelves.remove(before);
-        // There is room for one, so no memory is taken.
-        let _ = self.shelves.insert(place, shelf);
-    }
-
-    /// Puts a shelf of a new name at this position.
-    fn add(&mut self, place: usize, shelf: Shelf) -> Result<(), ShelfFault>
-        requires unnamed { place_of shelf.name self.old ≡ None }
-        requires within { place ≤ length (without shelf.name self.old) }
-        ensures ok { OnOk result (self.new ≡ insert (without shelf.name self.old) place shelf) }
-        ensures too_many { (result ≡ Err ShelfFault.TooMany) ↔ (MAX_SHELVES < length (without shelf.name self.old) + 1) }
-        ensures point { result ≢ Err ShelfFault.NoPoint }
-        ensures refused { OnErr result (self.new ≡ self.old) }
-    {
-        if self.shelves.len() == MAX_SHELVES {
-            return Err(ShelfFault::TooMany);
-        }
-        if self.shelves.insert(place, shelf).is_err() {
-            return Err(ShelfFault::Memory);
-        }
-        Ok(())
-    }
-
-    fn place_of(&self, name: &Text) -> Option<usize>
-        ensures place { result ≡ place_of name.now self.now }
-        ensures sound { AreShelves self.now }
+    /// The position of the shelf of this name.
+    pub fn place_of(&self, name: &Text) -> Option<usize>
+        ensures place { result ≡ place_of name.now self.now.shelves }
+        ensures within { IfSome result (λ place. place < length self.now.shelves) }
+        ensures sound { AreShelves self.now.shelves }
     {
         self.shelves.iter().position(|shelf| shelf.name == *name)
     }
 
-    /// The position of the point among the shelves of other names.
-    fn place_among_others(&self, point: &Text, name: &Text) -> Option<usize>
-        ensures place { result ≡ place_of point.now (without name.now self.now) }
-        ensures few { IfSome result (λ place. place < MAX_SHELVES) }
-    {
-        self.shelves
-            .iter()
-            .filter(|shelf| shelf.name != *name)
-            .position(|shelf| shelf.name == *point)
-    }
-
-    fn count_of_others(&self, name: &Text) -> usize
-        ensures { result ≡ length (without name.now self.now) }
-    {
-        self.shelves
-            .iter()
-            .filter(|shelf| shelf.name != *name)
-            .count()
-    }
-
-    /// The position of the spot among the shelves of other names.
-    fn place_for(&self, spot: &Spot, name: &Text) -> Option<usize>
-        ensures { result ≡ place_for spot.now name.now self.now }
+    /// The position that a shelf of this name gets at the spot, among the shelves of other names; None where its point isn't
+    /// one of these.
+    pub fn place_for(&self, spot: &Spot, name: &Text) -> Option<usize>
+        ensures place { result ≡ place_for spot.now name.now self.now.shelves }
+        ensures within { IfSome result (λ place. place ≤ length (without name.now self.now.shelves)) }
     {
         match spot {
             Spot::First => Some(0),
@@ -180,13 +102,120 @@ impl Shelves {
             Spot::Keep => Some(self.place_of(name).unwrap_or(self.count_of_others(name))),
         }
     }
+
+    /// Takes the memory for one more shelf, unless it is at hand already.
+    pub fn reserve(&mut self) -> Result<(), AllocError>
+        ensures shelves { self.new.shelves ≡ self.old.shelves }
+        ensures ok { OnOk result (0 < self.new.spare) }
+        ensures err { OnErr result (self.new ≡ self.old) }
+    {
+        self.shelves.reserve(1)
+    }
+
+    /// Puts the shelf at this position among those of other names, in place of the one that has its name. It takes no memory.
+    pub fn put(&mut self, shelf: Shelf, at: usize)
+        // There is room, or a shelf goes.
+        requires room { (0 < self.old.spare) ⊎ IsSome (place_of shelf.name self.old.shelves) }
+        requires few { length (without shelf.name self.old.shelves) < most_shelves }
+        requires within { at ≤ length (without shelf.name self.old.shelves) }
+        ensures shelves { self.new.shelves ≡ insert (without shelf.name self.old.shelves) at shelf }
+        ensures room { self.new.spare + length self.new.shelves ≡ self.old.spare + length self.old.shelves }
+    {
+        let _ = self.remove(&shelf.name);
+        // There is room for it, so no memory is taken.
+        let _ = self.shelves.insert(at, shelf);
+    }
+
+    /// Puts the shelf at its spot, in place of the one that has its name.
+    pub fn place(&mut self, shelf: Shelf, spot: Spot) -> Result<Placed, ShelfFault>
+        ensures ok { IfOk result (λ placed. IsPut self.old.shelves shelf spot placed self.new.shelves) }
+        ensures no_point { (result ≡ Err ShelfFault.NoPoint) ↔ (place_for spot shelf.name self.old.shelves ≡ None) }
+        ensures too_many { (result ≡ Err ShelfFault.TooMany)
+            ↔ (IsSome (place_for spot shelf.name self.old.shelves)
+            × (most_shelves < length (without shelf.name self.old.shelves) + 1)) }
+        ensures refused { OnErr result (self.new ≡ self.old) }
+    {
+        let Some(place) = self.place_for(&spot, &shelf.name) else {
+            return Err(ShelfFault::NoPoint);
+        };
+        self.make_room(&shelf.name)?;
+        let placed = placed(self.place_of(&shelf.name), place);
+        self.put(shelf, place);
+        Ok(placed)
+    }
+
+    /// Makes room for a shelf of this name, where none has it.
+    fn make_room(&mut self, name: &Text) -> Result<(), ShelfFault>
+        ensures shelves { self.new.shelves ≡ self.old.shelves }
+        ensures room { OnOk result ((0 < self.new.spare) ⊎ IsSome (place_of name.now self.old.shelves)) }
+        ensures few { OnOk result (length (without name.now self.old.shelves) < most_shelves) }
+        ensures too_many { (result ≡ Err ShelfFault.TooMany)
+            ↔ (most_shelves < length (without name.now self.old.shelves) + 1) }
+        ensures no_point { result ≢ Err ShelfFault.NoPoint }
+        ensures refused { OnErr result (self.new ≡ self.old) }
+    {
+        if self.count_of_others(name) >= MAX_SHELVES {
+            return Err(ShelfFault::TooMany);
+        }
+        if self.place_of(name).is_some() {
+            return Ok(());
+        }
+        match self.reserve() {
+            Ok(()) => Ok(()),
+            Err(AllocError) => Err(ShelfFault::Memory),
+        }
+    }
+
+    /// Takes out the shelf of this name.
+    pub fn remove(&mut self, name: &Text) -> Option<Shelf>
+        ensures answer { result ≡ shelf_of name.now self.old.shelves }
+        ensures none { (result ≡ None) ↔ All (λ shelf. shelf.name ≢ name.now) self.old.shelves }
+        ensures shelves { self.new.shelves ≡ without name.now self.old.shelves }
+        ensures room { self.new.spare + length self.new.shelves ≡ self.old.spare + length self.old.shelves }
+    {
+        let Some(place) = self.place_of(name) else {
+            return None;
+        };
+        Some(self.shelves.remove(place))
+    }
+
+    /// The position of the point among the shelves of other names.
+    fn place_among_others(&self, point: &Text, name: &Text) -> Option<usize>
+        ensures place { result ≡ place_of point.now (without name.now self.now.shelves) }
+        ensures few { IfSome result (λ place. place < most_shelves) }
+    {
+        self.shelves
+            .iter()
+            .filter(|shelf| shelf.name != *name)
+            .position(|shelf| shelf.name == *point)
+    }
+
+    fn count_of_others(&self, name: &Text) -> usize
+        ensures { result ≡ length (without name.now self.now.shelves) }
+    {
+        self.shelves
+            .iter()
+            .filter(|shelf| shelf.name != *name)
+            .count()
+    }
+}
+
+/// The answer where a shelf of the name stood there before, or nowhere, and stands at this position now.
+fn placed(before: Option<usize>, place: usize) -> Placed
+    ensures { result ≡ placed before place }
+{
+    match before {
+        Some(_) => Placed::Replaced(place),
+        None => Placed::Made(place),
+    }
 }
 
 impl Copied for Shelves {
     fn copy(&self, alloc: Global) -> Result<Shelves, AllocError> {
-        let mut shelves = Vec::with_capacity(alloc, self.shelves.len())?;
+        // So much that the copy has room for as many more.
+        let mut shelves = Vec::with_capacity(alloc, self.shelves.capacity())?;
         for shelf in &self.shelves {
-            shelves.push(shelf.copy(alloc)?)?;
+            shelves.push_reserved(shelf.copy(alloc)?);
         }
         Ok(Shelves { shelves })
     }
