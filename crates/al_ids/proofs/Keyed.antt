@@ -1,5 +1,6 @@
 -- Keys that compare as equal are one.
-use Rattle.std.proofs.Common.{◌≡◌, ℕ, List, true, refl, ◌∙◌, rules}
+use Rattle.std.proofs.Common.{◌≡◌, ℕ, List, true, ap, refl, ◌∙◌, rules}
+use Rattle.std.specs.Bool.{Decides}
 use Rattle.std.specs.Ordering.{is_eq}
 use Rattle.std.proofs.lemmas.Map.Text.{is_eq-slice_cmp}
 use Rattle.std.proofs.lemmas.Slice.Eq.{bytes_eq-Decides}
@@ -8,7 +9,7 @@ use Rattle.std.specs.Ordering.{nat_cmp, ordering_then}
 use Rattle.std.specs.declared.cmp.Ordering.{Ordering}
 use Rattle.std.specs.declared.cmp.Ordering.TheVariants.{Less, Equal, Greater}
 use Rattle.std.proofs.lemmas.Map.Lookups.{exact_bytes}
-use Rattle.al_ids.specs.Keys.{key_cmp}
+use Rattle.al_ids.specs.Keys.{is_same_key, key_cmp}
 use Rattle.al_ids.specs.declared.key.AlarmKey.{AlarmKey}
 
 first_equal : (a b : Ordering) → ordering_then a b ≡ Equal → a ≡ Equal
@@ -37,5 +38,8 @@ equal_from Greater h = cc
 same_bytes : (xs : List ℕ) → slice_cmp nat_cmp xs xs ≡ Equal
 same_bytes xs = equal_from (slice_cmp nat_cmp xs xs) (is_eq-slice_cmp xs xs ∙ (bytes_eq-Decides xs xs).1 refl)
 
-pub same_key : (a b : AlarmKey) → a ≡ b → key_cmp a b ≡ Equal
-same_key a b e = rw e (rw (same_bytes b.resource, same_bytes b.type_id, same_bytes b.qualifier) refl)
+pub equal_key : (a b : AlarmKey) → a ≡ b → key_cmp a b ≡ Equal
+equal_key a b e = rw e (rw (same_bytes b.resource, same_bytes b.type_id, same_bytes b.qualifier) refl)
+
+pub decides_key : (a b : AlarmKey) → Decides (is_same_key a b) (a ≡ b)
+decides_key a b = (λ h. exact_key a b (equal_from (key_cmp a b) h), λ e. ap is_eq (equal_key a b e))

@@ -2,6 +2,7 @@
 use Rattle.std.specs.Prelude.{◌≡◌, ◌≢◌, ◌⊎◌, ℕ, ◌+◌, ◌<◌, ◌≤◌, ◌==◌, Bool, false, Option, Some, None, IfSome, List, [], ◌∷◌, ◌++◌, length, take, IsUtf8, chars}
 use Rattle.std.specs.List.{AllByRecursion, AllZip}
 use Rattle.std.specs.Option.{option_or}
+use Rattle.al_base.specs.Limits.{longest_resource}
 use Rattle.al_pattern.specs.Language.{IsInLanguage}
 use Rattle.al_pattern.specs.Reading.{tree_of}
 use Rattle.al_pattern.specs.Trees.{IsSpelled}
@@ -39,7 +40,7 @@ IsFormed text = IsXPath text ⊎ IsOid text ⊎ IsPatternMatch text
 -- 1 to 512 bytes
 pub record IsSized (text : List ℕ) : Type 0 where
   pub shortest : 1 ≤ length text
-  pub longest : length text ≤ 512
+  pub longest : length text ≤ longest_resource
 
 pub record IsMatch (text : List ℕ) : Type 0 where
   pub sized : IsSized text

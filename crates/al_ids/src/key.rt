@@ -1,9 +1,9 @@
-ghost use Rattle.al_ids.specs.Keys.{key_cmp};
+ghost use Rattle.al_ids.specs.Keys.{is_same_key, key_cmp};
 ghost use Rattle.std.proofs.Common.{rules};
 ghost use Rattle.std.specs.Cmp.Rules.{comparing};
 ghost use Rattle.std.specs.Cmp.{partial_order_from_own_ties};
 ghost use Rattle.std.specs.Ordering.{as_partial_cmp};
-ghost use Rattle.std.specs.Prelude.{◌≡◌, ◌↔◌};
+ghost use Rattle.std.specs.Prelude.{◌≡◌, ◌↔◌, IsTrue};
 
 use crate::resource::Resource;
 use al_base::{Copied, Text, TypeId};
@@ -11,7 +11,7 @@ use std::alloc::{AllocError, Global};
 use std::cmp::Ordering;
 
 /// What identifies an alarm (RFC 8632, section 3.3).
-#[derive(Debug, Drop, PartialEq, Eq)]
+#[derive(Debug, Drop)]
 pub struct AlarmKey {
     /// What the alarm is about.
     pub resource: Resource,
@@ -22,6 +22,25 @@ pub struct AlarmKey {
 }
 
 // Keys are ordered by the bytes of the resource, then of the type, then of the qualifier.
+
+impl PartialEq for AlarmKey {
+    ghost eq = { is_same_key };
+
+    ghost laws = { Prim.search (comparing, rules) };
+
+    fn eq(&self, other: &AlarmKey) -> bool
+        ensures value { result ≡ is_same_key self.now other.now }
+        ensures exact { IsTrue result ↔ (self.now ≡ other.now) }
+    {
+        self.resource == other.resource
+            && self.type_id == other.type_id
+            && self.qualifier == other.qualifier
+    }
+}
+
+impl Eq for AlarmKey {
+    ghost laws = { Prim.search (comparing, rules) };
+}
 
 impl PartialOrd for AlarmKey {
     ghost partial_cmp = { as_partial_cmp key_cmp };
@@ -42,7 +61,10 @@ impl Ord for AlarmKey {
 
     ghost matches_eq = { Prim.search (comparing, rules) };
 
-    fn cmp(&self, other: &AlarmKey) -> Ordering {
+    fn cmp(&self, other: &AlarmKey) -> Ordering
+        ensures value { result ≡ key_cmp self.now other.now }
+        ensures exact { (result ≡ Ordering.Equal) ↔ (self.now ≡ other.now) }
+    {
         self.resource
             .cmp(&other.resource)
             .then(self.type_id.cmp(&other.type_id))
@@ -59,8 +81,3 @@ impl Copied for AlarmKey {
         })
     }
 }
-
-/// Two keys compare as equal exactly where they are one key.
-pub fn equal_keys_are_one()
-    ensures { (a b : AlarmKey) → (key_cmp a b ≡ Ordering.Equal) ↔ (a ≡ b) }
-{}

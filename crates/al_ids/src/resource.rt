@@ -1,3 +1,4 @@
+ghost use Rattle.al_base.specs.Limits.{longest_resource};
 ghost use Rattle.al_ids.specs.Oids.{IsOid};
 ghost use Rattle.al_ids.specs.Paths.{IsPath};
 ghost use Rattle.al_ids.specs.Resources.{IsOfKind, IsResource};
@@ -7,7 +8,7 @@ ghost use Rattle.std.specs.Cmp.Lexicographic.{slice_cmp};
 ghost use Rattle.std.specs.Cmp.Rules.{comparing};
 ghost use Rattle.std.specs.Cmp.{partial_order_from_own_ties};
 ghost use Rattle.std.specs.Ordering.{as_partial_cmp, nat_cmp};
-ghost use Rattle.std.specs.Prelude.{◌≡◌, ◌≢◌, ◌↔◌, ◌<◌, ◌≤◌, [], IfOk, IsUtf8, length};
+ghost use Rattle.std.specs.Prelude.{◌≡◌, ◌≢◌, ◌↔◌, ◌<◌, ◌≤◌, [], IfOk, IsTrue, IsUtf8, length};
 ghost use lib.Pointwise.{pointwise};
 
 use crate::{oid, path};
@@ -81,9 +82,9 @@ impl Resource {
     pub fn read(alloc: Global, text: &[u8]) -> Result<Resource, ResourceFault>
         ensures ok { IfOk result (λ resource. (resource ≡ text.now) × IsResource text.now) }
         ensures empty { (result ≡ Err ResourceFault.Empty) ↔ (text.now ≡ []) }
-        ensures too_long { (result ≡ Err ResourceFault.TooLong) ↔ (MAX_RESOURCE < length text.now) }
+        ensures too_long { (result ≡ Err ResourceFault.TooLong) ↔ (longest_resource < length text.now) }
         ensures not_utf8 { (result ≡ Err ResourceFault.NotUtf8)
-            ↔ ((text.now ≢ []) × (length text.now ≤ MAX_RESOURCE) × ¬ (IsUtf8 text.now)) }
+            ↔ ((text.now ≢ []) × (length text.now ≤ longest_resource) × ¬ (IsUtf8 text.now)) }
     {
         if text.is_empty() {
             return Err(ResourceFault::Empty);
@@ -136,7 +137,10 @@ impl PartialEq for Resource {
 
     ghost laws = { Prim.search (comparing, rules) };
 
-    fn eq(&self, other: &Resource) -> bool {
+    fn eq(&self, other: &Resource) -> bool
+        ensures value { result ≡ pointwise ◌==◌ self.now other.now }
+        ensures exact { IsTrue result ↔ (self.now ≡ other.now) }
+    {
         self.text == other.text
     }
 }

@@ -1,12 +1,17 @@
 //! Resource matches.
 
+ghost use Rattle.al_base.specs.Limits.{longest_resource};
 ghost use Rattle.al_ids.specs.MatchForms.{IsFormFault, IsOfForm, text_of};
 ghost use Rattle.al_ids.specs.Matches.{IsMatch, IsOther, IsSized, IsXPathStop, Matches, is_rooted as is_rooted_of};
 ghost use Rattle.al_ids.specs.Matching.{matches};
 ghost use Rattle.al_ids.specs.Oids.{IsOid};
 ghost use Rattle.al_ids.specs.Resources.{IsOfKind};
 ghost use Rattle.al_pattern.specs.Reading.{first_fault};
+ghost use Rattle.std.proofs.Common.{rules};
+ghost use Rattle.std.specs.Bool.{◌==◌};
+ghost use Rattle.std.specs.Cmp.Rules.{comparing};
 ghost use Rattle.std.specs.Prelude.{◌≡◌, ◌≢◌, ◌⊎◌, ◌↔◌, ◌<◌, ◌≤◌, ℕ, Some, [], IfOk, IsOkUnless, IsTrue, MatchResult, length};
+ghost use lib.Pointwise.{pointwise};
 
 use crate::resource::{Kind, MAX_RESOURCE, Resource};
 use crate::xpath::xpath_stop;
@@ -72,7 +77,8 @@ impl Model for ResourceMatch {
 
     ghost Value = { List ℕ };
 
-    ghost use Rattle.al_ids.specs.MatchForms.{text_of, IsKept};
+    ghost use Rattle.al_base.specs.Limits.{longest_resource};
+ghost use Rattle.al_ids.specs.MatchForms.{text_of, IsKept};
 
     ghost view = { λ kept. text_of kept.form };
 
@@ -90,7 +96,7 @@ impl ResourceMatch {
         // What is a match is read, unless memory runs out.
         ensures only { IsMatch text.now → IsOkUnless result MatchFault.Memory }
         ensures empty { (result ≡ Err MatchFault.Empty) ↔ (text.now ≡ []) }
-        ensures too_long { (result ≡ Err MatchFault.TooLong) ↔ (MAX_RESOURCE < length text.now) }
+        ensures too_long { (result ≡ Err MatchFault.TooLong) ↔ (longest_resource < length text.now) }
         ensures xpath { (place : ℕ) → (result ≡ Err (MatchFault.XPathUnsupported place))
             ↔ (IsSized text.now × IsTrue (is_rooted_of text.now) × IsXPathStop text.now place) }
         // The fault of a pattern is its first, and where there is one, it is the answer unless memory runs out.
@@ -147,6 +153,25 @@ impl Form {
             Form::Pattern(pattern) => is_of(resource, Kind::Plain) && pattern.matches(text),
         }
     }
+}
+
+// Matches are compared by their texts.
+
+impl PartialEq for ResourceMatch {
+    ghost eq = { pointwise ◌==◌ };
+
+    ghost laws = { Prim.search (comparing, rules) };
+
+    fn eq(&self, other: &ResourceMatch) -> bool
+        ensures value { result ≡ pointwise ◌==◌ self.now other.now }
+        ensures exact { IsTrue result ↔ (self.now ≡ other.now) }
+    {
+        self.source() == other.source()
+    }
+}
+
+impl Eq for ResourceMatch {
+    ghost laws = { Prim.search (comparing, rules) };
 }
 
 impl Copied for ResourceMatch {

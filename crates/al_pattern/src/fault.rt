@@ -8,7 +8,7 @@ ghost use Rattle.al_pattern.specs.declared.fault.PatternFault.TheVariants as fau
 use std::alloc::{AllocError, AllocFailed};
 
 /// What is wrong at a place of the text.
-#[derive(Clone, Copy, Debug, PartialEq, Eq)]
+#[derive(Clone, Copy)]
 pub enum FaultKind {
     /// No pattern has this byte here, or the text ends too soon, or a range falls.
     Syntax,
@@ -21,14 +21,14 @@ pub enum FaultKind {
 }
 
 /// A fault, by the number of bytes from its place to the end of the text.
-#[derive(Clone, Copy, Debug, PartialEq, Eq)]
+#[derive(Clone, Copy)]
 pub struct Fault {
     pub kind: FaultKind,
     pub left: usize,
 }
 
 /// Why a reader stopped.
-#[derive(Debug, Drop)]
+#[derive(Drop)]
 pub enum ReadError {
     Fault(Fault),
     Memory,

@@ -8,14 +8,14 @@ ghost use Rattle.al_pattern.specs.Letters.{value_of, escape_at, stop_at};
 use crate::fault::{Fault, FaultKind};
 
 /// A letter as it is written: a byte that stands for itself, or a backslash and a byte.
-#[derive(Clone, Copy, Debug, PartialEq, Eq)]
+#[derive(Clone, Copy)]
 pub enum Letter {
     Plain(u8),
     Escaped(u8),
 }
 
 /// An item of a class.
-#[derive(Clone, Copy, Debug, PartialEq, Eq)]
+#[derive(Clone, Copy)]
 pub enum Item {
     One(Letter),
     Range(Letter, Letter),

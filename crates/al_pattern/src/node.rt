@@ -11,14 +11,14 @@ use crate::letter::Item;
 use crate::token::{CharTest, Quantifier};
 
 /// The characters that a test allows: bits for those below 256, and whether the set is all the others.
-#[derive(Clone, Copy, Debug)]
+#[derive(Clone, Copy)]
 pub struct CharSet {
     pub bytes: [u64; 4],
     pub negated: bool,
 }
 
 /// A node of the compiled pattern.
-#[derive(Clone, Copy, Debug)]
+#[derive(Clone, Copy)]
 pub enum Node {
     Bar,
     /// A group's beginning, with its quantifier and how many nodes stand before its end.

@@ -1,6 +1,10 @@
 //! Patterns.
 
+ghost use Rattle.std.proofs.Common.{rules};
+ghost use Rattle.std.specs.Bool.{◌==◌};
+ghost use Rattle.std.specs.Cmp.Rules.{comparing};
 ghost use Rattle.std.specs.Prelude.{◌≡◌, ◌↔◌, ◌-◌, ℕ, List, length, None, ◌⊎◌, IsTrue, IfOk, IfErr, IsOkUnless, MatchResult, IsUtf8, chars};
+ghost use lib.Pointwise.{pointwise};
 ghost use Rattle.al_pattern.specs.Faults.{Fails};
 ghost use Rattle.al_pattern.specs.Language.{IsInLanguage};
 ghost use Rattle.al_pattern.specs.Membership.{is_in_language};
@@ -13,11 +17,12 @@ use crate::fault::{Fault, FaultKind, PatternFault, ReadError};
 use crate::node::Node;
 use crate::program::{accepts, takes_nothing};
 use std::alloc::{AllocError, Global};
+use std::fmt;
 use std::marker::Model;
 use std::str;
 
 /// A pattern: a contract sees its text, of which `tree_of` is the tree.
-#[derive(Debug, Drop)]
+#[derive(Drop)]
 pub struct Pattern {
     source: Vec<u8>,
     nodes: Vec<Node>,
@@ -94,6 +99,31 @@ impl Pattern {
             nodes: Vec::from_slice(alloc, &self.nodes)?,
             nullable: self.nullable,
         })
+    }
+}
+
+// Patterns are compared by their texts.
+
+impl PartialEq for Pattern {
+    ghost eq = { pointwise ◌==◌ };
+
+    ghost laws = { Prim.search (comparing, rules) };
+
+    fn eq(&self, other: &Pattern) -> bool
+        ensures value { result ≡ pointwise ◌==◌ self.now other.now }
+        ensures exact { IsTrue result ↔ (self.now ≡ other.now) }
+    {
+        self.source.as_slice() == other.source.as_slice()
+    }
+}
+
+impl Eq for Pattern {
+    ghost laws = { Prim.search (comparing, rules) };
+}
+
+impl fmt::Debug for Pattern {
+    fn fmt<W: fmt::Write>(&self, f: &mut fmt::Formatter<W>) -> fmt::Result {
+        write!(f, "Pattern({:?})", self.source)
     }
 }
 

@@ -16,7 +16,7 @@ pub const MAX_NODES: usize = 256;
 pub const MAX_DEPTH: usize = 16;
 
 /// How often what stands before it may be repeated.
-#[derive(Clone, Copy, Debug, PartialEq, Eq)]
+#[derive(Clone, Copy)]
 pub enum Quantifier {
     Once,
     Optional,
@@ -25,7 +25,7 @@ pub enum Quantifier {
 }
 
 /// A test of one character, as it is written.
-#[derive(Debug, Drop)]
+#[derive(Drop)]
 pub enum CharTest {
     Letter(Letter),
     Dot,
@@ -35,7 +35,7 @@ pub enum CharTest {
 }
 
 /// A bar, an end of a group, or a test; what may be repeated has its quantifier with it.
-#[derive(Debug, Drop)]
+#[derive(Drop)]
 pub enum Token {
     Bar,
     Open,

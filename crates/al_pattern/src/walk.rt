@@ -9,7 +9,7 @@ use crate::node::Node;
 use crate::token::Quantifier;
 
 /// What is known of a group and its current branch, before and after the character.
-#[derive(Clone, Copy, Debug)]
+#[derive(Clone, Copy)]
 pub struct Level {
     /// Whether each branch of the group may begin before the character.
     pub start: bool,
