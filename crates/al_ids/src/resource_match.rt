@@ -78,7 +78,7 @@ impl Model for ResourceMatch {
     ghost Value = { List ℕ };
 
     ghost use Rattle.al_base.specs.Limits.{longest_resource};
-ghost use Rattle.al_ids.specs.MatchForms.{text_of, IsKept};
+    ghost use Rattle.al_ids.specs.MatchForms.{text_of, IsKept};
 
     ghost view = { λ kept. text_of kept.form };
 

@@ -17,9 +17,8 @@ use crate::fault::{Fault, FaultKind, PatternFault, ReadError};
 use crate::node::Node;
 use crate::program::{accepts, takes_nothing};
 use std::alloc::{AllocError, Global};
-use std::fmt;
 use std::marker::Model;
-use std::str;
+use std::{fmt, str};
 
 /// A pattern: a contract sees its text, of which `tree_of` is the tree.
 #[derive(Drop)]

@@ -1,3 +1,4 @@
 pub mod Once
 pub mod Puts
 pub mod Takings
+pub mod TakingLaws

@@ -23,7 +23,7 @@ use Rattle.al_shelf.specs.declared.spot.Spot.TheVariants.{First, Last, Before, A
 use Rattle.al_shelf.proofs.Once.{PassesOnce, all_others, fewer_others, one_left_out, pairs_inserted}
 
 -- some shelf
-bare : Shelf
+pub bare : Shelf
 bare = record { name = []; resources = []; types = []; description = None }
 
 same_name : (name : List ℕ) (shelf : Shelf) → is_named name shelf ≡ true → shelf.name ≡ name
@@ -37,7 +37,7 @@ named_once name shelves sound i j d below within first second =
     sound.names i j d below within (same_name name (get_or shelves i d) first ∙ sym (same_name name (get_or shelves j d) second))
 
 -- where none stands
-none_within : {A : Type 0} (b : Bool) (x : A) → cond b (Some x) None ≡ None → b ≡ false
+pub none_within : {A : Type 0} (b : Bool) (x : A) → cond b (Some x) None ≡ None → b ≡ false
 none_within true x e = absurd (cc)
 none_within false x e = refl
 
@@ -89,7 +89,7 @@ inserted_sound shelf shelves others place same sound within room =
       names = pairs_inserted (λ a b. a.name ≢ b.name) (λ a b differ same. differ (sym same)) others place shelf within sound.names differ;
     }
 
-others_sound : (name : List ℕ) (shelves : List Shelf) → AreShelves shelves → AreShelves (without name shelves)
+pub others_sound : (name : List ℕ) (shelves : List Shelf) → AreShelves shelves → AreShelves (without name shelves)
 others_sound name shelves sound =
     let fewer = length-filter_both (is_named name) (λ s. not (is_named name s)) (λ s. refl) shelves in
     let few = sound.few in

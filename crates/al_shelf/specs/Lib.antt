@@ -1,4 +1,5 @@
-pub mod Deriving
+pub mod Exact
 pub mod Places
+pub mod Same
 pub mod Takes
 pub mod Taking

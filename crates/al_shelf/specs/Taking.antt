@@ -1,17 +1,15 @@
 -- Which shelf takes an alarm, as functions.
-use Rattle.std.specs.Prelude.{ℕ, Bool, true, false, ◌&&◌, ◌||◌, Option, List, [], ◌∷◌, chars, find}
+use Rattle.std.specs.Prelude.{ℕ, Bool, ◌&&◌, ◌||◌, ◌==◌, Option, List, chars, find, length}
 use Rattle.std.specs.List.{list_any}
 use Rattle.al_ids.specs.Matching.{matches}
 use Rattle.al_ids.specs.declared.key.AlarmKey.{AlarmKey}
 use Rattle.al_pattern.specs.Membership.{is_in_language}
-use Rattle.al_types.specs.Inventories.{InventoryView}
-use Rattle.al_shelf.specs.Deriving.{derives_from}
+use Rattle.al_types.specs.Inventories.{InventoryView, derives_from}
 use Rattle.al_shelf.specs.declared.shelf.Shelf.{Shelf}
 use Rattle.al_shelf.specs.declared.shelf.TypeMatch.{TypeMatch}
 
 abbrev pub is_empty : {X : Type 0} → List X → Bool
-is_empty [] = true
-is_empty (x ∷ xs) = false
+is_empty xs = length xs == 0
 
 -- The key's type is the criterion's or derives from it, and the key's whole qualifier is in the language of its pattern.
 abbrev pub is_of_type : InventoryView → AlarmKey → TypeMatch → Bool

@@ -2,6 +2,7 @@
 #![tactic(auto)]
 
 pub mod fault;
+pub mod laws;
 pub mod shelf;
 pub mod shelves;
 pub mod spot;

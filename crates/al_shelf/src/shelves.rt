@@ -36,6 +36,7 @@ impl Model for Shelves {
 impl Shelves {
     ghost use Rattle.al_shelf.specs.Places.{AreShelves, IsPut, place_for, place_of, shelf_of, without};
     ghost use Rattle.al_shelf.specs.Takes.{IsFirstShelf};
+    ghost use Rattle.al_shelf.specs.Taking.{first_shelf, takes};
 
     /// No shelves. They take no memory.
     pub fn new(alloc: Global) -> Shelves
@@ -69,7 +70,9 @@ impl Shelves {
 
     /// The position of the first shelf that takes the alarms of the key.
     pub fn first(&self, inv: &Inventory, key: &AlarmKey) -> Option<usize>
-        ensures { IsFirstShelf inv.now key.now self.now.shelves result }
+        ensures relation { IsFirstShelf inv.now key.now self.now.shelves result }
+        ensures position { result ≡ position (takes inv.now key.now) self.now.shelves }
+        ensures shelf { first_shelf inv.now key.now self.now.shelves ≡ option_and_then (slice_get self.now.shelves) result }
     {
         for (n, shelf) in self.shelves.iter().enumerate() {
             if shelf.takes(inv, key) {

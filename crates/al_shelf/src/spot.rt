@@ -1,3 +1,8 @@
+ghost use Rattle.al_shelf.specs.Exact.{same_spot_decides};
+ghost use Rattle.al_shelf.specs.Same.{same_spot};
+ghost use Rattle.std.specs.Cmp.{decided, partial_equiv_from_equiv};
+ghost use Rattle.std.specs.Prelude.{◌≡◌, ◌↔◌, IsTrue};
+
 use al_base::{Copied, Text};
 use std::alloc::{AllocError, Global};
 
@@ -21,6 +26,29 @@ pub enum Placed {
     Made(usize),
     /// It stands at this position in place of the one that had its name.
     Replaced(usize),
+}
+
+impl PartialEq for Spot {
+    ghost eq = { same_spot };
+
+    ghost laws = { partial_equiv_from_equiv (decided same_spot same_spot_decides) };
+
+    fn eq(&self, other: &Spot) -> bool
+        ensures value { result ≡ same_spot self.now other.now }
+        ensures exact { IsTrue result ↔ (self.now ≡ other.now) }
+    {
+        match (self, other) {
+            (Spot::First, Spot::First) | (Spot::Last, Spot::Last) | (Spot::Keep, Spot::Keep) =>
+                true,
+            (Spot::Before(point), Spot::Before(other)) => point == other,
+            (Spot::After(point), Spot::After(other)) => point == other,
+            _ => false,
+        }
+    }
+}
+
+impl Eq for Spot {
+    ghost laws = { decided same_spot same_spot_decides };
 }
 
 // Written out, so that a spot is dropped by one call.
