@@ -6,8 +6,16 @@
 #[cfg(test)]
 mod base;
 #[cfg(test)]
+mod matches;
+#[cfg(test)]
 mod outside;
 #[cfg(test)]
+mod pattern;
+#[cfg(test)]
 mod record;
+#[cfg(test)]
+mod resource;
+#[cfg(test)]
+mod shelf;
 #[cfg(test)]
 mod types;

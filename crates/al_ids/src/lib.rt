@@ -3,15 +3,11 @@
 
 pub mod key;
 pub mod laws;
-#[cfg(test)]
-mod match_tests;
 mod oid;
 mod path;
 pub mod resource;
 pub mod resource_match;
 mod steps;
-#[cfg(test)]
-mod tests;
 mod utf8;
 mod xpath;
 

@@ -15,6 +15,3 @@ mod walk;
 
 pub use fault::PatternFault;
 pub use pattern::Pattern;
-
-#[cfg(test)]
-mod tests;

@@ -6,8 +6,6 @@ pub mod laws;
 pub mod shelf;
 pub mod shelves;
 pub mod spot;
-#[cfg(test)]
-mod tests;
 
 pub use fault::ShelfFault;
 pub use shelf::{Shelf, TypeMatch};

@@ -1,7 +1,7 @@
-//! The cases of resources and keys that a reader of the formats would try first.
+//! Resources and keys.
 
-use crate::{AlarmKey, Kind, Resource, ResourceFault};
 use al_base::{Copied, Text, TypeId};
+use al_ids::{AlarmKey, Kind, Resource, ResourceFault};
 use std::test::Fail;
 
 #[test]

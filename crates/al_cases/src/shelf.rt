@@ -1,9 +1,9 @@
-//! The cases of shelves that a reader of the rules would try first.
+//! Shelves.
 
-use crate::{Placed, Shelf, ShelfFault, Shelves, Spot, TypeMatch};
 use al_base::{Copied, List, Text, TypeId};
 use al_ids::{AlarmKey, Resource, ResourceMatch};
 use al_pattern::Pattern;
+use al_shelf::{Placed, Shelf, ShelfFault, Shelves, Spot, TypeMatch};
 use al_types::{Identity, Inventory};
 use std::alloc::Global;
 use std::test::Fail;
@@ -34,7 +34,7 @@ fn spot(alloc: Global, at: At) -> Result<Spot, Fail> {
     Ok(spot.copy(alloc)?)
 }
 
-/// Puts a shelf without criteria.
+/// Puts a shelf without criteria at the spot.
 fn put(
     shelves: &mut Shelves,
     alloc: Global,
@@ -153,7 +153,7 @@ fn inventory(alloc: Global) -> Result<Inventory, Fail> {
     let mut identities = Vec::new(alloc);
     identities.push(identity(alloc, "ex:base", ROOT)?)?;
     identities.push(identity(alloc, "ex:link", "ex:base")?)?;
-    Ok(Inventory::build(alloc, List::of(identities), List::of(Vec::new(alloc)))?)
+    Ok(Inventory::build(alloc, identities, Vec::new(alloc))?)
 }
 
 fn key(alloc: Global, parts: [&str; 3]) -> Result<AlarmKey, Fail> {
@@ -199,20 +199,14 @@ fn types(alloc: Global, type_id: &str, qualifier: &str) -> Result<List<TypeMatch
     Ok(List::of(criteria))
 }
 
-/// Whether a shelf of these criteria takes the alarms of the key.
-fn takes(
-    alloc: Global,
-    inventory: &Inventory,
-    criteria: [&str; 3],
-    parts: [&str; 3],
-) -> Result<bool, Fail> {
-    let shelf = Shelf {
+/// A shelf of these criteria.
+fn shelf(alloc: Global, criteria: [&str; 3]) -> Result<Shelf, Fail> {
+    Ok(Shelf {
         name: text(alloc, "a")?,
         resources: resources(alloc, criteria[0])?,
         types: types(alloc, criteria[1], criteria[2])?,
         description: Some(text(alloc, "b")?),
-    };
-    Ok(shelf.copy(alloc)?.takes(inventory, &key(alloc, parts)?))
+    })
 }
 
 /// A criterion on resources, one on types with its pattern; a resource, a type and a qualifier; whether they are taken.
@@ -242,7 +236,9 @@ fn takes_by_criteria(rt: HostRuntime) -> Result<(), Fail> {
     let alloc = rt.alloc();
     let inventory = inventory(alloc)?;
     for (criteria, parts, wanted) in &CRITERIA {
-        let answer = takes(alloc, &inventory, *criteria, *parts)?;
+        let shelf = shelf(alloc, *criteria)?;
+        assert!(rt; shelf.copy(alloc)? == shelf);
+        let answer = shelf.takes(&inventory, &key(alloc, *parts)?);
         assert_eq!(rt; answer, *wanted, "{} {}", parts[0], parts[2]);
     }
     Ok(())

@@ -1,9 +1,8 @@
-//! The cases of resource matches that a reader of the formats would try first.
+//! Resource matches.
 
-use crate::{MatchFault, Resource, ResourceMatch};
 use al_base::Copied;
+use al_ids::{MatchFault, Resource, ResourceMatch};
 use al_pattern::PatternFault;
-use std::alloc::Global;
 use std::test::Fail;
 
 /// A resource with two predicates.
@@ -52,7 +51,12 @@ const TAKES: [(&str, &str, bool); 38] = [
 ];
 
 /// Bytes that are no match, with the fault.
-const FAULTS: [(&[u8], MatchFault); 27] = [
+const FAULTS: [(&[u8], MatchFault); 29] = [
+    (
+        &[b'a'; 512],
+        MatchFault::Pattern(PatternFault::TooLarge(256)),
+    ),
+    (&[b'a'; 513], MatchFault::TooLong),
     (b"", MatchFault::Empty),
     (b"/", MatchFault::XPathUnsupported(1)),
     (b"//link", MatchFault::XPathUnsupported(1)),
@@ -82,20 +86,14 @@ const FAULTS: [(&[u8], MatchFault); 27] = [
     (b"\xff", MatchFault::Pattern(PatternFault::Unsupported(0))),
 ];
 
-fn takes(alloc: Global, text: &str, resource: &str) -> Result<bool, Fail> {
-    let resource_match = ResourceMatch::read(alloc, text.as_bytes())?;
-    let resource = Resource::read(alloc, resource.as_bytes())?;
-    Ok(resource_match.matches(&resource))
-}
-
 #[test]
 fn takes_resources_of_its_kind(rt: HostRuntime) -> Result<(), Fail> {
-    for (text, resource, taken) in TAKES {
-        assert_eq!(rt;
-            takes(rt.alloc(), text, resource)?,
-            taken,
-            "{text} on {resource}"
-        );
+    let alloc = rt.alloc();
+    for (text, name, taken) in TAKES {
+        let read = ResourceMatch::read(alloc, text.as_bytes())?.copy(alloc)?;
+        let resource = Resource::read(alloc, name.as_bytes())?;
+        assert_eq!(rt; read.source(), text.as_bytes());
+        assert_eq!(rt; read.matches(&resource), taken, "{text} on {name}");
     }
     Ok(())
 }
@@ -108,31 +106,4 @@ fn tells_the_first_fault(rt: HostRuntime) {
             Err(found) => assert_eq!(rt; found, *fault),
         }
     }
-}
-
-#[test]
-fn reads_512_bytes(rt: HostRuntime) -> Result<(), Fail> {
-    let alloc = rt.alloc();
-    for (len, fault) in [
-        (512, MatchFault::Pattern(PatternFault::TooLarge(256))),
-        (513, MatchFault::TooLong),
-    ] {
-        let mut text = Vec::new(alloc);
-        for _ in 0..len {
-            text.push(b'a')?;
-        }
-        assert_eq!(rt; ResourceMatch::read(alloc, &text).err(), Some(fault));
-    }
-    Ok(())
-}
-
-#[test]
-fn keeps_and_copies_its_text(rt: HostRuntime) -> Result<(), Fail> {
-    let alloc = rt.alloc();
-    for text in ["/a[b='\u{e9}']", "1.3.6", "eth[0-9]+"] {
-        let read = ResourceMatch::read(alloc, text.as_bytes())?;
-        assert_eq!(rt; read.source(), text.as_bytes());
-        assert_eq!(rt; read.copy(alloc)?.source(), text.as_bytes());
-    }
-    Ok(())
 }
