@@ -99,24 +99,51 @@ const FAULTS: [(&str, PatternFault); 42] = [
     ("{", PatternFault::Unsupported(0)),
 ];
 
-fn repeated(alloc: Global, unit: &[u8], times: usize) -> Result<Vec<u8>, Fail> {
-    let mut text = Vec::new(alloc);
-    for _ in 0..times {
-        text.extend_from_slice(unit)?;
-    }
-    Ok(text)
-}
+/// Three parts of a text, each so often, and the fault of the text.
+const LIMITS: [([(&str, usize); 3], Option<PatternFault>); 10] = [
+    ([("a", 256), ("", 0), ("", 0)], None),
+    (
+        [("a", 257), ("", 0), ("", 0)],
+        Some(PatternFault::TooLarge(256)),
+    ),
+    (
+        [("a", 256), ("*", 1), ("", 0)],
+        Some(PatternFault::TooLarge(256)),
+    ),
+    (
+        [("a", 256), ("|", 1), ("", 0)],
+        Some(PatternFault::TooLarge(256)),
+    ),
+    (
+        [("a", 256), ("]", 1), ("", 0)],
+        Some(PatternFault::Syntax(256)),
+    ),
+    (
+        [("a", 256), ("\\q", 1), ("", 0)],
+        Some(PatternFault::Unsupported(256)),
+    ),
+    (
+        [("a", 256), ("\\,", 1), ("", 0)],
+        Some(PatternFault::TooLarge(256)),
+    ),
+    ([("(", 16), ("a", 1), (")", 16)], None),
+    (
+        [("(", 17), ("a", 1), (")", 17)],
+        Some(PatternFault::TooDeep(16)),
+    ),
+    (
+        [("(", 16), ("a", 240), ("(", 1)],
+        Some(PatternFault::TooLarge(256)),
+    ),
+];
 
-/// The text `front`, then `middle`, then `back`, each so often.
-fn text_of(
-    alloc: Global,
-    front: (&[u8], usize),
-    middle: (&[u8], usize),
-    back: (&[u8], usize),
-) -> Result<Vec<u8>, Fail> {
-    let mut text = repeated(alloc, front.0, front.1)?;
-    text.extend_from_slice(&repeated(alloc, middle.0, middle.1)?)?;
-    text.extend_from_slice(&repeated(alloc, back.0, back.1)?)?;
+fn text_of(alloc: Global, parts: &[(&str, usize)]) -> Result<Vec<u8>, Fail> {
+    let mut text = Vec::new(alloc);
+    for (part, times) in parts {
+        for _ in 0..*times {
+            text.extend_from_slice(part.as_bytes())?;
+        }
+    }
     Ok(text)
 }
 
@@ -142,7 +169,7 @@ fn takes_whole_texts(rt: HostRuntime) -> Result<(), Fail> {
         );
     }
     // No pattern is slow.
-    let text = text_of(alloc, (b"a", 255), (b"b", 1), (b"", 0))?;
+    let text = text_of(alloc, &[("a", 255), ("b", 1)])?;
     let stars = Pattern::read(alloc, b"(a*)*").ok().ok_or("a pattern")?;
     let copy = stars.copy(alloc)?;
     assert!(rt; copy == stars);
@@ -163,45 +190,9 @@ fn faults_at_their_places(rt: HostRuntime) -> Result<(), Fail> {
             "{text}"
         );
     }
-    let none: (&[u8], usize) = (b"", 0);
-    let limits = [
-        (text_of(alloc, (b"a", 256), none, none)?, None),
-        (
-            text_of(alloc, (b"a", 257), none, none)?,
-            Some(PatternFault::TooLarge(256)),
-        ),
-        (
-            text_of(alloc, (b"a", 256), (b"*", 1), none)?,
-            Some(PatternFault::TooLarge(256)),
-        ),
-        (
-            text_of(alloc, (b"a", 256), (b"|", 1), none)?,
-            Some(PatternFault::TooLarge(256)),
-        ),
-        (
-            text_of(alloc, (b"a", 256), (b"]", 1), none)?,
-            Some(PatternFault::Syntax(256)),
-        ),
-        (
-            text_of(alloc, (b"a", 256), (b"\\q", 1), none)?,
-            Some(PatternFault::Unsupported(256)),
-        ),
-        (
-            text_of(alloc, (b"a", 256), (b"\\,", 1), none)?,
-            Some(PatternFault::TooLarge(256)),
-        ),
-        (text_of(alloc, (b"(", 16), (b"a", 1), (b")", 16))?, None),
-        (
-            text_of(alloc, (b"(", 17), (b"a", 1), (b")", 17))?,
-            Some(PatternFault::TooDeep(16)),
-        ),
-        (
-            text_of(alloc, (b"(", 16), (b"a", 240), (b"(", 1))?,
-            Some(PatternFault::TooLarge(256)),
-        ),
-    ];
-    for (text, fault) in &limits {
-        assert_eq!(rt; fault_of(alloc, text), *fault, "{text:?}");
+    for (parts, fault) in &LIMITS {
+        let text = text_of(alloc, parts)?;
+        assert_eq!(rt; fault_of(alloc, &text), *fault, "{text:?}");
     }
     Ok(())
 }

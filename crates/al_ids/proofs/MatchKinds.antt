@@ -45,14 +45,8 @@ only_plain asked given pattern (inl path) = absurd (false≢true (sym pattern.ot
 only_plain asked given pattern (inr (inl oid)) = absurd (pattern.other.no_oid oid.front)
 only_plain asked given pattern (inr (inr plain)) = plain
 
-pub path_answer : (asked given : List ℕ) (answer : Bool) → IsXPath asked → IsTrue answer ↔ TakesPath asked given → IsTrue answer ↔ Matches asked given
-path_answer asked given answer xpath is = (λ h. inl (is.0 h), λ matches. is.1 (only_path asked given xpath matches))
-
 pub oid_answer : (asked given : List ℕ) (answer : Bool) → IsOid asked → IsTrue answer ↔ TakesOid asked given → IsTrue answer ↔ Matches asked given
 oid_answer asked given answer front is = (λ h. inr (inl (is.0 h)), λ matches. is.1 (only_oid asked given front matches))
-
-pub plain_answer : (asked given : List ℕ) (answer : Bool) → IsPatternMatch asked → IsTrue answer ↔ TakesPlain asked given → IsTrue answer ↔ Matches asked given
-plain_answer asked given answer pattern is = (λ h. inr (inr (is.0 h)), λ matches. is.1 (only_plain asked given pattern matches))
 
 -- the same for texts that are known to be those
 pub oid_moved : (front whole asked given : List ℕ) (answer : Bool) → front ≡ asked → whole ≡ given → IsOid asked → IsTrue answer ↔ TakesOid front whole → IsTrue answer ↔ Matches asked given

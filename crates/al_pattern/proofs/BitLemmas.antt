@@ -39,10 +39,6 @@ is_in-insert words n k within =
       ])
     ]
 
-pub is_in-range : (first last n k : ℕ) (before : Bool) → first ≤ n → (k == n || (nat_le first k && not (nat_le n k) || before)) ≡ (nat_le first k && not (nat_le (n + 1) k) || before)
-is_in-range first last n k true le = grind (arith, nat_tests)
-is_in-range first last n k false le = grind (arith, nat_tests)
-
 pub is_in-range_end : (first last n k : ℕ) (before : Bool) → last + 1 ≤ n → (first ≤ last + 1 → n ≤ last + 1) → (last + 1 < first → n ≡ first)
     → (nat_le first k && not (nat_le n k) || before) ≡ (nat_le first k && nat_le k last || before)
 is_in-range_end first last n k true a b c = grind (arith, nat_tests)

@@ -52,25 +52,6 @@ length-compiled p nodes opens built =
     sym (length-map nodes (seen 0)) ∙ ap length (built.compiled 0) ∙ length-append (outer_seen 0 p.outer) (choice_seen 0 p.top)
     ∙ omega (arith, length-outer_seen 0 p.outer, length-choice_seen 0 p.top)
 
-pub builds_one : (p : Progress) (nodes : List Node) (opens : List ℕ) (chars : CharSet) (t : Test) (q : Quantifier) → Builds p nodes opens
-    → ((c : ℕ) → admits chars c ≡ is_allowed t c) → Builds (put (one t q) p) (nodes ++ node.Test chars q ∷ []) opens
-builds_one p nodes opens chars t q built agree = record {
-  compiled = λ c.
-      map_push (seen c) nodes (node.Test chars q) ∙ ap (λ xs. xs ++ seen_test (admits chars c) q ∷ []) (built.compiled c)
-      ∙ append_assoc (outer_seen c p.outer) (choice_seen c p.top) (seen_test (admits chars c) q ∷ [])
-      ∙ ap (λ b. outer_seen c p.outer ++ (choice_seen c p.top ++ seen_test b q ∷ [])) (agree c)
-      ∙ ap (λ xs. outer_seen c p.outer ++ xs) (sym (choice_seen-with_atom c p.top (character t) q));
-  opened = built.opened;
-}
-
-pub builds_bar : (p : Progress) (nodes : List Node) (opens : List ℕ) → Builds p nodes opens → Builds (put bar p) (nodes ++ node.Bar ∷ []) opens
-builds_bar p nodes opens built = record {
-  compiled = λ c.
-      map_push (seen c) nodes node.Bar ∙ ap (λ xs. xs ++ seen_bar ∷ []) (built.compiled c)
-      ∙ append_assoc (outer_seen c p.outer) (choice_seen c p.top) (seen_bar ∷ []);
-  opened = built.opened;
-}
-
 pub builds_open : (p : Progress) (nodes : List Node) (opens : List ℕ) → Builds p nodes opens
     → Builds (put open_group p) (nodes ++ node.Open Once 0 ∷ []) (opens ++ length nodes ∷ [])
 builds_open p nodes opens built = record {
@@ -127,12 +108,3 @@ builds_close p nodes opens all begin inner q built e size =
     let P : List Choice → Type 0 = λ outer. Builds (closed q p.top outer) (set nodes begin (node.Open q inner) ++ node.Close q ∷ []) opens in
     subst P (sym last.2) done
 
--- with no group begin, a close changes nothing
-pub builds_no_close : (p : Progress) (nodes : List Node) (opens : List ℕ) (q : Quantifier) → Builds p nodes opens → length opens ≡ 0 → Builds (closed q p.top p.outer) nodes opens
-builds_no_close p nodes opens q built none =
-    let P : List Choice → Type 0 = λ outer. (openings outer ≡ opens → ((c : ℕ) → map (seen c) nodes ≡ outer_seen c outer ++ choice_seen c p.top) → Builds (closed q p.top outer) nodes opens) in
-    let cases : (outer : List Choice) → P outer = elim [
-      | [] ↦ λ e f. record { compiled = f; opened = sym e }
-      | around ∷ rest ↦ λ e f. absurd (omega (arith, ap length e, length_push (openings rest) (outer_size rest + choice_size around), none))
-    ] in
-    cases p.outer (sym built.opened) built.compiled

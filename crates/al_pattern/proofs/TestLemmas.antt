@@ -28,9 +28,6 @@ le_from a b e = grind (arith, nat_tests)
 pub eq_from : (a b : ℕ) → (a == b) ≡ true → a ≡ b
 eq_from a b e = elim (eqb_tells a b) [ inl h ↦ h.1 | inr h ↦ absurd (let f = h.0 in cc) ]
 
-pub eq_same : (a : ℕ) → (a == a) ≡ true
-eq_same a = elim (eqb_tells a a) [ inl h ↦ h.0 | inr h ↦ absurd (h.1 refl) ]
-
 -- a byte that passes a test which another fails is another byte
 pub differs : (p : ℕ → Bool) (b k : ℕ) → p b ≡ true → p k ≡ false → (b == k) ≡ false
 differs p b k passes never = elim (eqb_tells b k) [

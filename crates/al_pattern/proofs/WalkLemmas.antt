@@ -89,5 +89,3 @@ walk_ends nodes olds begins i marks level around s = record {
   last = sym (ap (λ x. x.1) s.runs);
 }
 
-pub walk_begins : (nodes : List Seen) (olds : List Bool) (begins : Bool) (marks : List ℕ) → Holds marks [] → SoFar nodes nodes olds begins 0 marks (begun begins) []
-walk_begins nodes olds begins marks none = record { news = []; count = refl; marked = none; runs = refl }

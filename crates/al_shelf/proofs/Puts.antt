@@ -160,9 +160,3 @@ room_left name shelves spare left (inr named) e =
     let fewer = fewer_named name shelves (place_of name shelves) refl named in
     omega arith
 
--- answers differ
-pub ok_err : {T E : Type 0} (x : T) (e : E) → ◌≡◌ {A = Result T E} (Ok x) (Err e) → ⊥
-ok_err x e same = absurd (cc)
-
-pub memory_too_many : {T : Type 0} → ◌≡◌ {A = Result T ShelfFault} (Err Memory) (Err TooMany) → ⊥
-memory_too_many same = absurd (cc)
