@@ -1,3 +1,9 @@
+ghost use Rattle.al_select.specs.Filters.{facts_of, has_clearance, is_by, is_older, operator_of, purge_takes, same_state, stands, state_of};
+ghost use Rattle.al_select.specs.Meets.{MeetsPurge};
+ghost use Rattle.std.specs.Option.{option_map_or};
+ghost use Rattle.std.specs.Prelude.{◌≡◌, ◌↔◌, true, IsTrue};
+
+use crate::facts::AlarmFacts;
 use al_base::{Copied, OperatorState, Severity, Text};
 use std::alloc::{AllocError, Global};
 
@@ -29,6 +35,92 @@ pub struct PurgeFilter {
     pub state: Option<OperatorState>,
     /// The operator of the newest operator entry; an alarm without such entries has none.
     pub user: Option<Text>,
+}
+
+impl Clearance {
+    fn allows(self, cleared: bool) -> bool
+        ensures { result ≡ has_clearance self cleared }
+    {
+        match self {
+            Clearance::Any => true,
+            Clearance::Cleared => cleared,
+            Clearance::NotCleared => !cleared,
+        }
+    }
+}
+
+impl Compare {
+    /// Whether the severity stands so to the given one.
+    fn holds(self, severity: Severity, given: Severity) -> bool
+        ensures { result ≡ stands self severity given }
+    {
+        match self {
+            Compare::Below => severity.rank() < given.rank(),
+            Compare::Equal => severity.rank() == given.rank(),
+            Compare::Above => severity.rank() > given.rank(),
+        }
+    }
+}
+
+impl PurgeFilter {
+    #[tactic(auto, unfolding(crate::specs::Filters::purge_takes))]
+    /// Whether a purge at the time, in milliseconds since 1970, takes an alarm of these facts.
+    pub fn takes(&self, facts: &AlarmFacts, time: u64) -> bool
+        ensures value { result ≡ purge_takes self.now (facts_of facts.now) time }
+        ensures meaning { IsTrue result ↔ MeetsPurge self.now (facts_of facts.now) time }
+    {
+        self.clearance.allows(facts.cleared)
+            && self.takes_age(facts, time)
+            && self.takes_severity(facts.severity)
+            && self.takes_state(facts)
+            && self.takes_operator(facts)
+    }
+
+    fn takes_age(&self, facts: &AlarmFacts, time: u64) -> bool
+        ensures { result ≡ option_map_or (is_older time facts.now.changed) self.now.age true }
+    {
+        match self.age {
+            Some(age) => time.saturating_sub(facts.changed.ms()) > age,
+            None => true,
+        }
+    }
+
+    fn takes_severity(&self, severity: Severity) -> bool
+        ensures { result ≡ option_map_or (λ s. stands s.0 severity s.1) self.now.severity true }
+    {
+        match self.severity {
+            Some((compare, given)) => compare.holds(severity, given),
+            None => true,
+        }
+    }
+
+    fn takes_state(&self, facts: &AlarmFacts) -> bool
+        ensures { result ≡ option_map_or (same_state (state_of (facts_of facts.now))) self.now.state true }
+    {
+        match self.state {
+            Some(state) => newest_state(facts) == state,
+            None => true,
+        }
+    }
+
+    fn takes_operator(&self, facts: &AlarmFacts) -> bool
+        ensures { result ≡ option_map_or (is_by (operator_of (facts_of facts.now))) self.now.user true }
+    {
+        match (&self.user, facts.newest) {
+            (None, _) => true,
+            (Some(user), Some((_, operator))) => *operator == *user,
+            (Some(_), None) => false,
+        }
+    }
+}
+
+fn newest_state(facts: &AlarmFacts) -> OperatorState
+    ensures { result ≡ state_of (facts_of facts.now) }
+{
+    match facts.newest {
+        Some((state, _)) => state,
+        None => OperatorState::None0,
+    }
 }
 
 // By hand, so that an early return has one call for the whole value.
