@@ -1,2 +1,10 @@
+pub mod Alarms
+pub mod Decision
+pub mod Events
+pub mod History
 pub mod Limits
 pub mod Refusals
+pub mod Sames
+pub mod State
+pub mod Step
+pub mod Summary
