@@ -8,3 +8,4 @@ pub mod Sames
 pub mod State
 pub mod Step
 pub mod Summary
+pub mod Validity

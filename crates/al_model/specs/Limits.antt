@@ -2,7 +2,7 @@
 use Rattle.std.specs.Prelude.{◌≢◌, ℕ, ◌≤◌, ◌<◌, ◌^◌, ⊤, Option, None, Some, IfSome, List, All, length}
 use Rattle.std.specs.List.{AllPairs}
 use Rattle.al_base.specs.Identifiers.{IsTypeName}
-use Rattle.al_base.specs.Limits.{IsAge, IsAlarmText, IsDescription, IsFilterName, IsOperatorName, IsOperatorText, IsPatternText, IsQualifier, IsResourceText, IsShelfName, IsStatusChanges, last_stamp, most_shelf_resources, most_shelf_types}
+use Rattle.al_base.specs.Limits.{IsAge, IsAlarmText, IsDescription, IsFilterName, IsOperatorName, IsOperatorText, IsPatternText, IsQualifier, IsResourceText, IsSeveritySet, IsShelfName, IsStatusChanges, last_stamp, most_row_resources, most_shelf_resources, most_shelf_types}
 use Rattle.al_base.specs.declared.operator.OperatorState.{OperatorState}
 use Rattle.al_base.specs.declared.operator.OperatorState.TheVariants.{None0, Ack, Closed, Shelved, UnShelved}
 use Rattle.al_ids.specs.Matches.{IsMatch}
@@ -15,7 +15,10 @@ use Rattle.al_shelf.specs.declared.shelf.Shelf.{Shelf}
 use Rattle.al_shelf.specs.declared.shelf.TypeMatch.{TypeMatch}
 use Rattle.al_shelf.specs.declared.spot.Spot.{Spot}
 use Rattle.al_shelf.specs.declared.spot.Spot.TheVariants.{First, Last, Before, After, Keep}
-use Rattle.al_types.specs.Limits.{IsInventoryWithin}
+use Rattle.al_types.specs.Faults.{IsSound}
+use Rattle.al_types.specs.Inventories.{InventoryView}
+use Rattle.al_types.specs.declared.row.Identity.{Identity}
+use Rattle.al_types.specs.declared.row.Row.{Row}
 use Rattle.al_model.specs.declared.entry.Entry.{Entry}
 use Rattle.al_model.specs.declared.event.Event.{Event}
 use Rattle.al_model.specs.declared.event.Event.TheVariants as events
@@ -97,6 +100,26 @@ pub record IsCompressWithin (filter : CompressFilter) : Type 0 where
   pub resource : IfSome filter.resource IsMatch
   pub type_id : IfSome filter.type_id IsTypeName
   pub qualifier : IfSome filter.qualifier IsQualifier
+
+-- ---- inventories
+
+pub record IsIdentityWithin (identity : Identity) : Type 0 where
+  pub name : IsTypeName identity.name
+  pub base : IsTypeName identity.base
+
+pub record IsRowWithin (row : Row) : Type 0 where
+  pub type_id : IsTypeName row.type_id
+  pub qualifier : IsQualifier row.qualifier
+  pub few_resources : length row.resources ≤ most_row_resources
+  pub resources : All IsResourceText row.resources
+  pub severities : IsSeveritySet row.severities
+  pub description : IsDescription row.description
+
+-- lists that make an inventory, of members within limits
+pub record IsInventoryWithin (inventory : InventoryView) : Type 0 where
+  pub sound : IsSound inventory.identities inventory.rows
+  pub identities : All IsIdentityWithin inventory.identities
+  pub rows : All IsRowWithin inventory.rows
 
 -- ---- requests, events and entries
 
