@@ -1,8 +1,10 @@
+pub mod Bounds
 pub mod Cases
 pub mod Fitting
 pub mod Lifting
 pub mod Marks
 pub mod Moves
 pub mod Newest
+pub mod Order
 pub mod Times
 pub mod Tools
