@@ -2,9 +2,13 @@ pub mod Bounds
 pub mod Cases
 pub mod Fitting
 pub mod Lifting
+pub mod Living
 pub mod Marks
 pub mod Moves
 pub mod Newest
 pub mod Order
+pub mod Sameness
+pub mod Sames
 pub mod Times
 pub mod Tools
+pub mod Touched

@@ -87,6 +87,17 @@ step s e =
     with_times s e.time e.event
     (with_note (note_of s e.event) e.time (with_moves s e.time (after_event s e.time e.event)))
 
+-- The same with its parts apart: all but the alarms, the alarms, the note, whether each side changes, and the time.
+abbrev pub built : State → List AlarmState → Option NoteBody → Bool → Bool → ℕ → State
+built s alarms note list shelf time =
+    record s {
+      alarms = alarms;
+      log = log_after note time s.log;
+      time = time;
+      list_time = time_of_change list time s.list_time;
+      shelf_time = time_of_change shelf time s.shelf_time;
+    }
+
 -- The states differ in their time, if at all.
 abbrev pub IsSameButTime : State → State → Type 0
 IsSameButTime before after = after ≡ record before { time = after.time }
