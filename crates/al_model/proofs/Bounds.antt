@@ -141,7 +141,7 @@ has_room s time event h =
       clock = λ is. not_at_end (s.time == last_stamp) ClockEnd second.1 ((Decides-eqb s.time last_stamp).1 is);
     }
 
-length_filter : {X : Type 0} (p : X → Bool) (xs : List X) → length (filter p xs) ≤ length xs
+pub length_filter : {X : Type 0} (p : X → Bool) (xs : List X) → length (filter p xs) ≤ length xs
 length_filter p [] = omega arith
 length_filter p (x ∷ xs) =
     let more = length_filter p xs in

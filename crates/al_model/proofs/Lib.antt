@@ -1,6 +1,8 @@
 pub mod Bounds
 pub mod Cases
+pub mod Decided
 pub mod Fitting
+pub mod Histories
 pub mod Lifting
 pub mod Living
 pub mod Marks
