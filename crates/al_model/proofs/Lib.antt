@@ -11,6 +11,8 @@ pub mod Newest
 pub mod Order
 pub mod Sameness
 pub mod Sames
+pub mod SideTimes
+pub mod Sides
 pub mod Times
 pub mod Tools
 pub mod Touched

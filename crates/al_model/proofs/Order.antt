@@ -74,7 +74,7 @@ in_order_map f same [] h = tt
 in_order_map f same (x ∷ xs) h =
     (subst (λ key. AllByRecursion (λ y. key_cmp key y.key ≡ Less) (map f xs)) (sym (same x)) (above_map x.key f same xs h.0), in_order_map f same xs h.1)
 
-above_filter_map : (key : AlarmKey) (f : AlarmState → Option AlarmState) → ((a : AlarmState) → IfSome (f a) (λ b. b.key ≡ a.key)) → (xs : List AlarmState) → AllByRecursion (λ y. key_cmp key y.key ≡ Less) xs → AllByRecursion (λ y. key_cmp key y.key ≡ Less) (filter_map f xs)
+pub above_filter_map : (key : AlarmKey) (f : AlarmState → Option AlarmState) → ((a : AlarmState) → IfSome (f a) (λ b. b.key ≡ a.key)) → (xs : List AlarmState) → AllByRecursion (λ y. key_cmp key y.key ≡ Less) xs → AllByRecursion (λ y. key_cmp key y.key ≡ Less) (filter_map f xs)
 above_filter_map key f same [] h = tt
 above_filter_map key f same (x ∷ xs) h = by (f x) (same x) (above_filter_map key f same xs h.1)
   where
