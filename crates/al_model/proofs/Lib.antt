@@ -1,5 +1,6 @@
 pub mod Bounds
 pub mod Cases
+pub mod Counts
 pub mod Decided
 pub mod Fitting
 pub mod Histories
@@ -9,6 +10,7 @@ pub mod Marks
 pub mod Moves
 pub mod Newest
 pub mod Order
+pub mod Refusing
 pub mod Sameness
 pub mod Sames
 pub mod SideTimes

@@ -2,6 +2,7 @@ pub mod Alarms
 pub mod Decision
 pub mod Events
 pub mod History
+pub mod Laws
 pub mod Limits
 pub mod Refusals
 pub mod Sames
