@@ -11,6 +11,7 @@ pub mod Moves
 pub mod Newest
 pub mod Order
 pub mod Refusing
+pub mod Repeats
 pub mod Sameness
 pub mod Sames
 pub mod SideTimes

@@ -5,7 +5,8 @@ use Rattle.std.specs.Option.{option_copied}
 use Rattle.std.specs.Slice.{IsItemAt}
 use Rattle.std.proofs.lemmas.Bool.{cases_lt}
 use Rattle.std.proofs.lemmas.Option.{same_Some, slice_get_past, slice_get_read, slice_get_within}
-use Rattle.al_notify.specs.Logs.{LogView, IsLog, oldest_of}
+use Rattle.std.proofs.lemmas.List.{drop-append-le}
+use Rattle.al_notify.specs.Logs.{IsLog, LogView, logged, newest_notes, oldest_of}
 use Rattle.al_notify.specs.declared.note.Note.{Note}
 
 pub get_drop : {X : Type 0} (n k : ℕ) (xs : List X) → slice_get (drop n xs) k ≡ slice_get xs (n + k)
@@ -73,3 +74,11 @@ keeps old note items log next are =
 pub put_last : {X : Type 0} (put : Bool) (xs ys after : List X) (x : X) → after ≡ cond put (xs ++ x ∷ []) xs → put ≡ true → xs ≡ ys → after ≡ ys ++ x ∷ []
 put_last true xs ys after x is ok same = is ∙ ap (λ zs. zs ++ x ∷ []) same
 put_last false xs ys after x is ok same = absurd (cc)
+
+-- the log with the next note is a log
+pub logged_sound : (log : LogView) (note : Note) → IsLog log → note.number ≡ log.sent + 1 → IsLog (logged note log)
+logged_sound log note sound next =
+    let all : length (log.notes ++ note ∷ []) ≡ length log.notes + 1 = length-append log.notes (note ∷ []) in
+    let within : length log.notes + 1 - 4096 ≤ length log.notes = omega arith in
+    keeps log note (newest_notes (log.notes ++ note ∷ [])) sound next
+    (ap (λ n. drop (n - 4096) (log.notes ++ note ∷ [])) all ∙ drop-append-le (length log.notes + 1 - 4096) log.notes (note ∷ []) within)
