@@ -19,3 +19,4 @@ pub mod Sides
 pub mod Times
 pub mod Tools
 pub mod Touched
+pub mod Validity

@@ -7,6 +7,7 @@ pub mod decision;
 pub mod entry;
 pub mod event;
 pub mod kept;
+pub mod laws;
 pub mod request;
 
 pub use decision::{Decision, Refusal, Reply};
