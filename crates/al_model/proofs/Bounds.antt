@@ -19,7 +19,7 @@ use Rattle.al_base.specs.declared.severity.Status.TheVariants.{Cleared, Active}
 use Rattle.al_base.specs.declared.text.Text.{Text}
 use Rattle.al_ids.specs.Keys.{key_cmp}
 use Rattle.al_ids.specs.declared.key.AlarmKey.{AlarmKey}
-use Rattle.al_shelf.proofs.Puts.{put_sound}
+use Rattle.al_shelf.proofs.Puts.{others_sound, put_sound}
 use Rattle.al_shelf.specs.Places.{AreShelves, is_named, without}
 use Rattle.al_shelf.specs.declared.shelf.Shelf.{Shelf}
 use Rattle.al_shelf.specs.declared.spot.Spot.TheVariants.{First, After}
@@ -198,14 +198,6 @@ asked_within others shelf (suc before) request h = by (slice_get others before) 
     by None is h = absurd (cc)
     by (Some other) is h = let lt = slice_get_within others before other is in omega arith
 
-shelves_without : (name : Text) (shelves : List Shelf) → AreShelves shelves → AreShelves (without name shelves)
-shelves_without name shelves h =
-    let few = h.few in
-    record {
-      few = omega (arith, length_filter (λ shelf. not (is_named name shelf)) shelves);
-      names = AllPairs-filter (λ a b. a.name ≢ b.name) (λ shelf. not (is_named name shelf)) shelves h.names;
-    }
-
 shelves_set : (s : State) (e : Entry) (f : Fits s e) (event : Event) → e.event ≡ event → length (set_by s event).shelves ≤ 64 → AreShelves s.shelves → AreShelves (set_by s event).shelves
 shelves_set s e f (events.Report key status text) is few h = h
 shelves_set s e f (events.Operate key state operator text) is few h = h
@@ -215,7 +207,7 @@ shelves_set s e f (events.PutShelf shelf at) is few h =
     let others = without shelf.name s.shelves in
     let within = asked_within others shelf at f.request (sym (ap (asked_for s) is) ∙ f.asked) in
     put_sound shelf s.shelves at h within (omega (arith, length-insert others at shelf within))
-shelves_set s e f (events.DropShelf name) is few h = shelves_without name s.shelves h
+shelves_set s e f (events.DropShelf name) is few h = others_sound name s.shelves h
 shelves_set s e f (events.Purge side filter) is few h = h
 shelves_set s e f (events.Compress side filter) is few h = h
 shelves_set s e f (events.Install inventory) is few h = h

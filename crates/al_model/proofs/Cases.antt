@@ -18,10 +18,9 @@ use Rattle.al_select.specs.declared.purge.Clearance.TheVariants as clearances
 use Rattle.al_select.specs.declared.purge.Compare.TheVariants as compares
 use Rattle.al_select.specs.declared.purge.PurgeFilter.{PurgeFilter}
 use Rattle.al_pattern.specs.Reading.{read_from, tree_of}
-use Rattle.al_shelf.specs.Deriving.{derives_from}
 use Rattle.al_shelf.specs.Taking.{takes}
 use Rattle.al_shelf.specs.declared.shelf.Shelf.{Shelf}
-use Rattle.al_types.specs.Inventories.{InventoryView}
+use Rattle.al_types.specs.Inventories.{InventoryView, derives_from}
 use Rattle.al_model.specs.History.{replay}
 use Rattle.al_model.specs.State.{State, AlarmState, listed, shelved, start}
 use Rattle.al_model.specs.Step.{step}

@@ -20,7 +20,7 @@ use Rattle.al_model.specs.Alarms.{alarm_of, bounded, facts_of, is_of, move_entry
 use Rattle.al_model.specs.Decision.{changes, sets}
 use Rattle.al_model.specs.Events.{after_event, fate, moves, newcomer, set_by, touches}
 use Rattle.al_model.specs.Laws.{IsRepeatable}
-use Rattle.al_model.specs.Sames.{same_installed, same_option, same_rule, same_shelves}
+use Rattle.al_model.specs.Sames.{same_installed, same_rule, same_shelves}
 use Rattle.al_model.specs.State.{AlarmState, State, is_on, shelf_name}
 use Rattle.al_model.specs.Step.{IsSameButTime, moved, step}
 use Rattle.al_model.specs.declared.entry.Entry.{Entry}

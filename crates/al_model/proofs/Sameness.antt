@@ -1,13 +1,13 @@
 -- A step leaves all but the time exactly where its event changes nothing.
 use Rattle.std.proofs.Common.{◌≡◌, ◌≢◌, ℕ, ◌+◌, ◌<◌, ◌≤◌, Bool, true, false, cond, not, ◌&&◌, ◌||◌, ◌==◌, Option, None, Some, List, [], ◌∷◌, ◌++◌, map, refl, sym, ap, ◌∙◌, subst, arith}
 use Rattle.std.specs.List.{AllByRecursion, filter, filter_map, find, list_any}
-use Rattle.std.specs.Option.{IfSome, is_some, option_map, option_to_list}
+use Rattle.std.specs.Option.{IfSome, is_some, option_eq, option_map, option_to_list}
 use Rattle.std.specs.Ordering.{is_eq, is_gt, is_lt}
 use Rattle.al_base.specs.declared.severity.Severity.{Severity}
 use Rattle.al_base.specs.declared.severity.Status.{Status}
 use Rattle.al_base.specs.declared.severity.Status.TheVariants.{Cleared, Active}
 use Rattle.al_base.specs.declared.text.Text.{Text}
-use Rattle.al_ids.proofs.Keyed.{same_key}
+use Rattle.al_ids.proofs.Keyed.{equal_key}
 use Rattle.al_ids.specs.Keys.{key_cmp}
 use Rattle.al_ids.specs.declared.key.AlarmKey.{AlarmKey}
 use Rattle.al_notify.specs.Logs.{LogView, logged}
@@ -17,7 +17,7 @@ use Rattle.al_notify.specs.declared.note.NoteBody.TheVariants as notes
 use Rattle.al_model.specs.Alarms.{alarm_of, is_of, new_alarm, says_more, status_of, with_newcomer}
 use Rattle.al_model.specs.Decision.{changes, sets}
 use Rattle.al_model.specs.Events.{after_event, fate, newcomer, set_by, touches}
-use Rattle.al_model.specs.Sames.{same_installed, same_option, same_rule, same_shelves}
+use Rattle.al_model.specs.Sames.{same_installed, same_rule, same_shelves}
 use Rattle.al_model.specs.State.{AlarmState, State, is_listed, is_on, shelf_name}
 use Rattle.al_model.specs.Step.{IsSameButTime, built, is_news, log_after, moved, note_of, step, time_of_change, touches_side}
 use Rattle.al_model.specs.declared.entry.Entry.{Entry}
@@ -37,7 +37,7 @@ pub set_nothing : (s : State) (event : Event) → sets s event ≡ false → set
 set_nothing s (events.Report key status text) h = refl
 set_nothing s (events.Operate key state operator text) h = absurd (cc)
 set_nothing s (events.SetMax max) h =
-    let same = (decides_max s.max max).0 (not_false (same_option ◌==◌ s.max max) h) in
+    let same = (decides_max s.max max).0 (not_false (option_eq ◌==◌ s.max max) h) in
     ap (λ m. let t : State = record s { max = m } in t) (sym same)
 set_nothing s (events.SetNotify rule) h =
     let same = (decides_rule s.rule rule).0 (not_false (same_rule s.rule rule) h) in
@@ -87,7 +87,7 @@ newcomer_key s time (events.Install inventory) = tt
 pub found_in : (new : AlarmState) (alarms : List AlarmState) (g : AlarmState → AlarmState) → ((a : AlarmState) → (g a).key ≡ a.key) → is_some (alarm_of new.key (map g (with_newcomer (Some new) alarms))) ≡ true
 found_in new alarms g same =
     let all = with_newcomer (Some new) alarms in
-    let here : is_of new.key new ≡ true = ap is_eq (same_key new.key new.key refl) in
+    let here : is_of new.key new ≡ true = ap is_eq (equal_key new.key new.key refl) in
     found (is_of new.key) (map g all) ∙ any_map (is_of new.key) (is_of new.key) g (λ a. ap (λ k. is_eq (key_cmp k new.key)) (same a)) all
     ∙ any_append (is_of new.key) (filter (λ a. is_lt (key_cmp a.key new.key)) alarms) new (filter (λ a. is_gt (key_cmp a.key new.key)) alarms) here
 

@@ -11,7 +11,7 @@ use Rattle.al_base.specs.declared.severity.Status.{Status}
 use Rattle.al_base.specs.declared.severity.Status.TheVariants.{Cleared, Active}
 use Rattle.al_base.specs.declared.text.Text.{Text}
 use Rattle.al_base.specs.declared.operator.OperatorState.TheVariants.{Shelved}
-use Rattle.al_ids.proofs.Keyed.{same_key}
+use Rattle.al_ids.proofs.Keyed.{equal_key}
 use Rattle.al_ids.specs.Keys.{key_cmp}
 use Rattle.al_ids.specs.declared.key.AlarmKey.{AlarmKey}
 use Rattle.al_select.specs.Filters.{purge_takes, same_text}
@@ -205,7 +205,7 @@ this_side p new xs none here same =
     let shown : filter on (with_newcomer (Some new) xs) ≡ filter on lower ++ new ∷ filter on upper =
         filter_append on lower (new ∷ upper) ∙ ap (λ b. filter on lower ++ cond b (new ∷ filter on upper) (filter on upper)) here in
     let found_after : list_any (is_of new.key) (filter on (with_newcomer (Some new) xs)) ≡ true =
-        ap (list_any (is_of new.key)) shown ∙ any_append (is_of new.key) (filter on lower) new (filter on upper) (ap is_eq (same_key new.key new.key refl)) in
+        ap (list_any (is_of new.key)) shown ∙ any_append (is_of new.key) (filter on lower) new (filter on upper) (ap is_eq (equal_key new.key new.key refl)) in
     let both : true ≡ false = sym found_after ∙ ap (list_any (is_of new.key)) same ∙ none_kept (is_of new.key) on xs none in
     cc
   where

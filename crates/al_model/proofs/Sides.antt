@@ -7,7 +7,7 @@ use Rattle.std.specs.Ordering.{is_eq, is_gt, is_lt}
 use Rattle.std.specs.declared.cmp.Ordering.{Ordering}
 use Rattle.std.specs.declared.cmp.Ordering.TheVariants.{Less, Equal, Greater}
 use Rattle.std.proofs.lemmas.Option.{same_Some}
-use Rattle.al_ids.proofs.Keyed.{same_key}
+use Rattle.al_ids.proofs.Keyed.{equal_key}
 use Rattle.al_ids.specs.Keys.{key_cmp}
 use Rattle.al_ids.specs.declared.key.AlarmKey.{AlarmKey}
 use Rattle.al_base.specs.declared.severity.Status.{Status}
@@ -76,7 +76,7 @@ module _ (f : AlarmState → Option AlarmState) (t : AlarmState → Bool) (p q :
   not_above x y ys [] same above is = cc
   not_above x y ys (z ∷ zs) same above is =
       let first : z ≡ y = cc in
-      let both : Less ≡ Equal = sym above.0 ∙ ap (λ a. key_cmp x.key a.key) first ∙ ap (key_cmp x.key) same ∙ same_key x.key x.key refl in
+      let both : Less ≡ Equal = sym above.0 ∙ ap (λ a. key_cmp x.key a.key) first ∙ ap (key_cmp x.key) same ∙ equal_key x.key x.key refl in
       cc
 
   pub same_side : (xs : List AlarmState) → IsInOrder xs → AllByRecursion P xs → filter (λ a. q a.key) (filter_map f xs) ≡ filter (λ a. p a.key) xs → list_any (λ x. t x && (p x.key || q x.key)) xs ≡ false

@@ -1,7 +1,7 @@
 -- What is to become of a request in a state.
 use Rattle.std.specs.Prelude.{◌≡◌, ℕ, ◌+◌, ◌==◌, max, nat_le, nat_lt, Bool, true, false, not, ◌&&◌, ◌||◌, ⊤, Option, None, Some, List, is_none, is_some, length}
 use Rattle.std.specs.List.{count_by, list_any}
-use Rattle.std.specs.Option.{option_or, unwrap_or}
+use Rattle.std.specs.Option.{option_eq, option_or, unwrap_or}
 use Rattle.al_base.specs.Limits.{last_stamp, most_alarms, most_shelves}
 use Rattle.al_base.specs.declared.severity.Status.TheVariants.{Cleared, Active}
 use Rattle.al_base.specs.declared.severity.Severity.{Severity}
@@ -13,7 +13,7 @@ use Rattle.al_types.specs.Inventories.{allows, row_of}
 use Rattle.al_types.specs.declared.row.Row.{Row}
 use Rattle.al_model.specs.Alarms.{alarm_of}
 use Rattle.al_model.specs.Events.{newcomer, set_by, touches}
-use Rattle.al_model.specs.Sames.{same_installed, same_option, same_rule, same_shelves}
+use Rattle.al_model.specs.Sames.{same_installed, same_rule, same_shelves}
 use Rattle.al_model.specs.State.{State, inventory_of, is_listed}
 use Rattle.al_model.specs.declared.decision.Decision.{Decision}
 use Rattle.al_model.specs.declared.decision.Decision.TheVariants.{Refuse, Same, Change}
@@ -100,7 +100,7 @@ undeclared s (requests.Install inventory) = None
 abbrev pub sets : State → Event → Bool
 sets s (events.Report key status text) = false
 sets s (events.Operate key state operator text) = true
-sets s (events.SetMax max) = not (same_option ◌==◌ s.max max)
+sets s (events.SetMax max) = not (option_eq ◌==◌ s.max max)
 sets s (events.SetNotify rule) = not (same_rule s.rule rule)
 sets s (events.PutShelf shelf at) = not (same_shelves s.shelves (set_by s (events.PutShelf shelf at)).shelves)
 sets s (events.DropShelf name) = not (same_shelves s.shelves (set_by s (events.DropShelf name)).shelves)
