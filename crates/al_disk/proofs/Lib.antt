@@ -1,0 +1,4 @@
+pub mod Going
+pub mod Moments
+pub mod Parts
+pub mod Replaying

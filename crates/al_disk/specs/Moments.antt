@@ -1,0 +1,23 @@
+-- What a crash may have left at every moment of a run of calls.
+use Rattle.std.specs.Prelude.{◌≡◌, ℕ, List, [], ◌∷◌, ◌++◌, length}
+use Rattle.al_disk.specs.Images.{LeavesOnly, Moment}
+use Rattle.al_disk.specs.States.{DiskState}
+
+-- a crash at any of these moments leaves only bytes of which P holds
+abbrev pub AllLeaveOnly : (List ℕ → Type 0) → List Moment → Type 0
+AllLeaveOnly P [] = Unit {0}
+AllLeaveOnly P (m ∷ moments) = LeavesOnly P m × AllLeaveOnly P moments
+
+-- P holds of each image of every moment after these earlier ones.
+pub record SinceMoments (P : List ℕ → Type 0) (earlier : List Moment) (s : DiskState) : Type 0 where
+  pub moments : List Moment
+  pub are : s.now ∷ s.past ≡ moments ++ earlier
+  pub each : AllLeaveOnly P moments
+
+-- P holds of each image of every moment from the one state to the other, those of both states included
+abbrev pub Between : (List ℕ → Type 0) → DiskState → DiskState → Type 0
+Between P old new = SinceMoments P old.past new
+
+-- P holds of each image of every moment from this time on
+abbrev pub Since : (List ℕ → Type 0) → ℕ → DiskState → Type 0
+Since P t s = (earlier : List Moment) × (length earlier ≡ t) × SinceMoments P earlier s
