@@ -2,7 +2,7 @@
 use Rattle.std.proofs.Common.{◌≡◌, inl, inr, ℕ, ◌≤◌, List, [], ◌∷◌, ◌++◌, length, refl, sym, ◌∙◌, ap, subst, append_assoc, arith}
 use Rattle.al_disk.specs.Images.{Change, DoesPart, LeavesOnly, MayLeave, Moment}
 use Rattle.al_disk.specs.States.{DiskState, MayChange, ReadsAsAnImage, synced, time, with_change}
-use Rattle.al_disk.specs.Moments.{AllLeaveOnly, Between, Since, SinceMoments}
+use Rattle.al_disk.specs.Moments.{AllLeaveOnly, Between, Has, Since, SinceMoments}
 use Rattle.al_disk.proofs.Parts.{same_part}
 
 -- a weaker predicate
@@ -51,12 +51,6 @@ module _ (P : List ℕ → Type 0) (earlier : List Moment) (old new : DiskState)
 -- the same, since a time
 pub since_on : (P : List ℕ → Type 0) (t : ℕ) (old new : DiskState) → t ≤ time old → Since P t old → Between P old new → Since P t new
 since_on P t old new fits before after = (before.0, before.1, goes_on P before.0 old new (omega (arith, before.1)) before.2 after)
-
--- P holds of the content and of each image now, and R of each image of the moments after the earlier ones.
-pub record Has (P R : List ℕ → Type 0) (earlier : List Moment) (s : DiskState) : Type 0 where
-  pub content : P s.content
-  pub images : LeavesOnly P s.now
-  pub moments : SinceMoments R earlier s
 
 pub begins : (P R : List ℕ → Type 0) (s : DiskState) → P s.content → LeavesOnly P s.now → ((image : List ℕ) → P image → R image) → Has P R s.past s
 begins P R s content images so = record {

@@ -21,3 +21,9 @@ Between P old new = SinceMoments P old.past new
 -- P holds of each image of every moment from this time on
 abbrev pub Since : (List ℕ → Type 0) → ℕ → DiskState → Type 0
 Since P t s = (earlier : List Moment) × (length earlier ≡ t) × SinceMoments P earlier s
+
+-- P holds of the content and of each image now, and R of each image of the moments after the earlier ones.
+pub record Has (P R : List ℕ → Type 0) (earlier : List Moment) (s : DiskState) : Type 0 where
+  pub content : P s.content
+  pub images : LeavesOnly P s.now
+  pub moments : SinceMoments R earlier s

@@ -1,15 +1,15 @@
 //! Bytes that go where there is room for them.
 
-ghost use Rattle.std.specs.Prelude.{◌≡◌, ◌≤◌, ◌+◌, ◌-◌, false, ◌++◌, length, take, drop, min, vec_capacity};
+ghost use Rattle.std.specs.Prelude.{◌≡◌, ◌≤◌, ◌+◌, ◌-◌, ◌++◌, length, take, drop, min, vec_capacity};
 ghost use Rattle.al_disk.specs.States.{put};
 
-/// Copies what there is from a place on and fits, and answers how much; nothing where it is to fail.
-pub fn copy_from(bytes: &[u8], place: u64, to: &mut [u8], failed: bool) -> usize
+/// Copies what there is from a place on and fits, and answers how much.
+pub fn copy_from(bytes: &[u8], place: u64, to: &mut [u8]) -> usize
     ensures within { result ≤ length to.new }
-    ensures count { failed ≡ false → result ≡ min (length to.old) (length bytes.now - place) }
-    ensures copied { failed ≡ false → take result to.new ≡ take (length to.old) (drop place bytes.now) }
+    ensures count { result ≡ min (length to.old) (length bytes.now - place) }
+    ensures copied { take result to.new ≡ take (length to.old) (drop place bytes.now) }
 {
-    if failed || place >= bytes.len() as u64 {
+    if place >= bytes.len() as u64 {
         return 0;
     }
     let from = &bytes[place as usize..];

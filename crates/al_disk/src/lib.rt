@@ -1,7 +1,7 @@
 //! The disk: its five calls, what a crash may leave of it, a disk in memory and a real file.
 #![tactic(auto)]
 
-mod bytes;
+pub mod bytes;
 pub mod disk;
 pub mod file;
 mod log;

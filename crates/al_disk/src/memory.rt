@@ -119,12 +119,11 @@ impl Disk for MemDisk {
         ensures after { self.new ≡ after_look self.old }
     {
         let failed = self.fails_call();
-        let size = self.content.len();
         self.plan.count(failed);
         if failed {
             return Err(DiskFault);
         }
-        Ok(size as u64)
+        Ok(self.content.len() as u64)
     }
 
     fn read_at(&mut self, place: u64, buf: &mut [u8]) -> Result<usize, DiskFault>
@@ -138,12 +137,11 @@ impl Disk for MemDisk {
         ensures after { self.new ≡ after_look self.old }
     {
         let failed = self.fails_call();
-        let count = copy_from(&self.content, place, buf, failed);
         self.plan.count(failed);
         if failed {
             return Err(DiskFault);
         }
-        Ok(count)
+        Ok(copy_from(&self.content, place, buf))
     }
 
     fn write_at(&mut self, place: u64, bytes: &[u8]) -> Result<(), DiskFault>

@@ -1,0 +1,9 @@
+pub mod Bearing
+pub mod BlockReading
+pub mod Committing
+pub mod Frames
+pub mod FrontReading
+pub mod Gates
+pub mod Heads
+pub mod Pieces
+pub mod Reaching
