@@ -1,0 +1,11 @@
+pub mod Answers
+pub mod Cuts
+pub mod Escapes
+pub mod Faults
+pub mod Keys
+pub mod Limits
+pub mod Paths
+pub mod Queries
+pub mod Resources
+pub mod Targets
+pub mod TypeNames
