@@ -2,5 +2,4 @@ pub mod CutLemmas
 pub mod Gathered
 pub mod KeyLemmas
 pub mod Texts
-pub mod TypeTests
 pub mod Within

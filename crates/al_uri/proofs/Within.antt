@@ -1,27 +1,24 @@
 -- What is read is within the limits of keys, shelves and starts.
-use Rattle.std.proofs.Common.{◌≡◌, ℕ, ◌≤◌, ◌<◌, ◌^◌, ◌&&◌, nat_le, Bool, true, false, if◌then◌else◌, Option, None, Some, Result, Ok, Err, IfOk, IfSome, List, [], ◌∷◌, length, refl, subst, arith, rules, unwrap_or, lit<, codes}
+use Rattle.std.proofs.Common.{◌≡◌, ℕ, ◌≤◌, ◌<◌, ◌^◌, ◌&&◌, nat_le, Bool, true, false, if◌then◌else◌, Option, None, Some, Result, Ok, Err, IfOk, IfSome, List, [], ◌∷◌, length, refl, subst, arith, unwrap_or, lit<, codes}
 use Rattle.std.specs.Bool.{⊤}
 use Rattle.std.specs.Char.{is_ascii_digit}
 use Rattle.std.specs.List.{list_all}
-use Rattle.std.specs.Str.{is_utf8}
 use Rattle.std.specs.Str.Parse.{digits_value}
 use Rattle.std.proofs.lemmas.Bool.Decides.{nat_tests}
-use Rattle.std.proofs.lemmas.Str.{IsUtf8-from_is_utf8}
-use Rattle.al_base.specs.Identifiers.{IsTypeName}
-use Rattle.al_base.specs.Limits.{IsShelfName, IsText}
-use Rattle.al_shelf.specs.declared.spot.Spot.{Spot}
-use Rattle.al_shelf.specs.declared.spot.Spot.TheVariants as spots
+use Rattle.al_base.proofs.FormTests.{decides_text, decides_type_name}
+use Rattle.al_base.specs.Identifiers.{IsTypeName, is_type_name}
+use Rattle.al_base.specs.Limits.{IsShelfName, IsText, is_text}
 use Rattle.al_uri.specs.Answers.{and_then, or_fault}
 use Rattle.al_uri.specs.Cuts.{behind, front, pieces, pieces_left}
 use Rattle.al_uri.specs.Escapes.{decoded}
 use Rattle.al_uri.specs.Faults.{Answers}
-use Rattle.al_uri.specs.Keys.{alarm_key, entered, is_text, text_key, type_key}
+use Rattle.al_uri.specs.Keys.{alarm_key, entered, text_key, type_key}
 use Rattle.al_uri.specs.Limits.{IsKeyWithin, IsSpotWithin, IsTargetWithin}
 use Rattle.al_uri.specs.Paths.{keys_of, place_at, resource_at, step, walk, walk_rooted}
 use Rattle.al_uri.specs.Queries.{after_part, after_parts, from_value, insert_value, known_at, no_parameters, not_empty, once, parameters_of, point_value, shelf_at, spot_of, with_parameters, with_part}
 use Rattle.al_uri.specs.Resources.{child, is_same, plain_name, way_of, ways}
 use Rattle.al_uri.specs.Targets.{target_of}
-use Rattle.al_uri.specs.TypeNames.{is_type_name, with_module}
+use Rattle.al_uri.specs.TypeNames.{with_module}
 use Rattle.al_uri.specs.declared.fault.UriFault.{UriFault}
 use Rattle.al_uri.specs.declared.fault.UriFault.TheVariants.{BadKeys, BadQuery, NoSuchPath}
 use Rattle.al_uri.specs.declared.place.Place.{Place}
@@ -35,7 +32,6 @@ use Rattle.al_uri.specs.declared.query.Known.TheVariants as knowns
 use Rattle.al_uri.specs.declared.query.Parameters.{Parameters}
 use Rattle.al_uri.specs.declared.target.Target.{Target}
 use Rattle.al_uri.specs.declared.target.Target.TheVariants as targets
-use Rattle.al_uri.proofs.TypeTests.{type_named}
 
 -- ---- readings one after the other
 
@@ -62,21 +58,12 @@ le_true m n h = grind (arith, nat_tests)
 text_within : (least most : ℕ) (key : List ℕ) → IfOk (text_key least most key) (IsText least most)
 unfolding text_key
 text_within least most key =
-    ok_if (IsText least most) (is_text least most key) (Ok key) (Err BadKeys)
-    (λ passed.
-    let parts = and_true (nat_le least (length key) && nat_le (length key) most) (is_utf8 key) passed in
-    let sizes = and_true (nat_le least (length key)) (nat_le (length key) most) parts.0 in
-    record {
-      utf8 = IsUtf8-from_is_utf8 key parts.1;
-      shortest = le_true least (length key) sizes.0;
-      longest = le_true (length key) most sizes.1;
-    })
-    (λ _. tt)
+    ok_if (IsText least most) (is_text least most key) (Ok key) (Err BadKeys) (decides_text least most key).0 (λ _. tt)
 
 type_within : (key : List ℕ) → IfOk (type_key key) IsTypeName
 unfolding type_key
 type_within key =
-    ok_if IsTypeName (is_type_name (with_module key)) (Ok (with_module key)) (Err BadKeys) (type_named (with_module key)) (λ _. tt)
+    ok_if IsTypeName (is_type_name (with_module key)) (Ok (with_module key)) (Err BadKeys) (decides_type_name (with_module key)).0 (λ _. tt)
 
 key_within : (resource type_id qualifier : List ℕ) → IfOk (alarm_key resource type_id qualifier) IsKeyWithin
 unfolding alarm_key

@@ -1,5 +1,5 @@
 -- The tree of names: where each leads (RFC 8040, section 3.3; RFC 8632, section 6; the nodes of the module `alarmd`).
-use Rattle.std.specs.Prelude.{ℕ, ◌==◌, if◌then◌else◌, Bool, Option, None, Some, List, [], ◌∷◌, codes, length, drop}
+use Rattle.std.specs.Prelude.{ℕ, ◌==◌, if◌then◌else◌, Bool, Option, None, Some, List, [], ◌∷◌, codes, drop}
 use Rattle.std.specs.Cmp.Lexicographic.{pointwise}
 use Rattle.std.specs.List.{starts_with}
 use Rattle.al_uri.specs.declared.place.Place.{Place}

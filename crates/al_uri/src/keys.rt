@@ -92,7 +92,7 @@ fn resource_key(alloc: Global, key: &Text) -> Result<Resource, UriFault>
     }
 }
 
-#[tactic(auto, unfolding(crate::specs::Keys::type_key), using(crate::proofs::TypeTests::type_named, crate::proofs::TypeTests::type_tested, crate::proofs::TypeTests::type_untested))]
+#[tactic(auto, using(crate::proofs::KeyLemmas::type_key_is, crate::proofs::KeyLemmas::other_type_key))]
 fn type_key(alloc: Global, key: &Text) -> Result<TypeId, UriFault>
     ensures { Answers (type_key key.now) result }
 {
@@ -104,7 +104,7 @@ fn type_key(alloc: Global, key: &Text) -> Result<TypeId, UriFault>
 }
 
 /// A text of so many bytes.
-#[tactic(auto, unfolding(crate::specs::Keys::text_key), using(crate::proofs::Texts::text_tested))]
+#[tactic(auto, using(crate::proofs::KeyLemmas::key_is, crate::proofs::KeyLemmas::short_key, crate::proofs::KeyLemmas::long_key))]
 fn text_key(alloc: Global, least: usize, most: usize, key: &Text) -> Result<Text, UriFault>
     ensures { Answers (text_key least most key.now) result }
 {

@@ -1,4 +1,4 @@
-use Rattle.std.proofs.Common.{◌≡◌, ◌+◌, ℕ, List, length, Option, None, Some, Bor}
+use Rattle.std.proofs.Common.{◌≡◌}
 use Rattle.std.specs.Option.{option_copied}
 use Rattle.al_uri.specs.Cuts.{pieces_left}
 use Rattle.al_uri.specs.Queries.{after_parts, no_parameters, not_empty}
