@@ -1,0 +1,5 @@
+pub mod Grows
+pub mod Keeps
+pub mod Places
+pub mod Moves
+pub mod Seats
