@@ -1,5 +1,5 @@
 -- How histories grow, and whose entries stand in what they grow by.
-use Rattle.std.proofs.Common.{◌≡◌, ◌≢◌, ◌==◌, ℕ, ◌≤◌, eqb, Bool, true, false, cond, List, [], ◌∷◌, ◌++◌, length, drop, refl, sym, ap, ◌∙◌, subst, arith, append_assoc, append-nil, ne_eqb, eqb-true}
+use Rattle.std.proofs.Common.{◌≡◌, ◌≢◌, ◌==◌, ℕ, suc, ◌≤◌, eqb, Bool, true, false, cond, List, [], ◌∷◌, ◌++◌, length, drop, refl, sym, ap, ◌∙◌, subst, arith, append_assoc, append-nil, ne_eqb, eqb-true}
 use Rattle.std.proofs.lemmas.Bool.{false≢true}
 use Rattle.std.proofs.lemmas.List.{append_cancel_left, drop-append-le}
 use Rattle.std.proofs.lemmas.List.Elements.{filter-append}
@@ -74,3 +74,20 @@ numbered_by p n (e ∷ es) low high m = let is = eqb-true e.origin p m.0 in ((om
 pub numbered_longer : (a b : List Entry) (p n from : ℕ) → from ≤ length a → StartsWith b a → 1 ≤ p → p ≤ n → MadeBy (λ q. q == p) (further b a) → Numbered n (drop from a) → Numbered n (drop from b)
 numbered_longer a b p n from le e low high m before =
     subst (Numbered n) (sym (drop_longer a b from le e)) (numbered_append n (drop from a) (further b a) before (numbered_by p n (further b a) low high m))
+
+pub none_numbered : (n p : ℕ) (es : List Entry) → suc n ≤ p → Numbered n es → entries_by p es ≡ []
+none_numbered n p [] above m = refl
+none_numbered n p (e ∷ es) above m =
+    let high = m.0.1 in
+    let ne : e.origin ≢ p = λ q. absurd (omega arith) in
+    ap (λ (b : Bool). cond b (e ∷ entries_by p es) (entries_by p es)) (ne_eqb e.origin p ne) ∙ none_numbered n p es above m.1
+
+numbered_front : (n : ℕ) (xs ys : List Entry) → Numbered n (xs ++ ys) → Numbered n xs
+numbered_front n [] ys m = tt
+numbered_front n (x ∷ xs) ys m = (m.0, numbered_front n xs ys m.1)
+
+-- an origin that made no entry yet has none in either history
+pub none_yet : (a b : List Entry) (n p from : ℕ) → from ≤ length a → StartsWith b a → suc n ≤ p → Numbered n (drop from b) → entries_of b p from ≡ entries_of a p from
+none_yet a b n p from le e above m =
+    none_numbered n p (drop from b) above m
+    ∙ sym (none_numbered n p (drop from a) above (numbered_front n (drop from a) (further b a) (subst (Numbered n) (drop_longer a b from le e) m)))

@@ -3,3 +3,5 @@ pub mod Keeps
 pub mod Places
 pub mod Moves
 pub mod Seats
+pub mod Splits
+pub mod Closing

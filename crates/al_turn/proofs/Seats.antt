@@ -25,6 +25,9 @@ module _ {T : Type 0} where
   with_slots : (v : View) (hs ks : List (ℕ × Option T)) → hs ≡ ks → seat_of v hs ≡ seat_of v ks
   with_slots v hs ks e = ap (seat_of v) e
 
+  pub no_slots : (me : Me (Option T) View) → IsIdle me → me ≡ (me.0, [])
+  no_slots me idle = with_slots me.0 me.1 [] idle.slots
+
   -- the seat after the value was put into its slot
   pub holding : (before after : Me (Option T) View) (x : T) → before.1 ≡ (0, None) ∷ [] → after ≡ (before.0, (0, Some x) ∷ rest before.1) → after ≡ (before.0, (0, Some x) ∷ [])
   holding before after x out is = is ∙ with_slots before.0 ((0, Some x) ∷ rest before.1) ((0, Some x) ∷ []) (ap (λ (l : List (ℕ × Option T)). (0, Some x) ∷ rest l) out)
@@ -75,6 +78,9 @@ module _ {T : Type 0} where
   -- the seat after its turn
   pub ends_seat : (before after : Me (Option T) View) (v : View) → before ≡ (v, []) → after ≡ (ended before.0, before.1) → after ≡ (ended v, [])
   ends_seat before after v was is = let f : Me (Option T) View → Me (Option T) View = λ m. (ended m.0, m.1) in is ∙ ap f was
+
+  pub same_value : (x y : T) (out : Option T) → out ≡ Some x → out ≡ Some y → x ≡ y
+  same_value x y out is_x is_y = let value : Option T → T = λ o. unwrap_or o x in ap value (sym is_x ∙ is_y)
 
   abbrev value_of : Option T → List (ℕ × Option T) → Option T
   value_of d [] = d
