@@ -1,5 +1,5 @@
 -- What is known once pass 1 has taken in all other passes.
-use Rattle.std.proofs.Common.{◌≡◌, ◌≢◌, ◌⊎◌, ℕ, zero, suc, ◌+◌, ◌<◌, ◌≤◌, List, [], ◌∷◌, ◌++◌, length, drop, refl, sym, ap, ◌∙◌, subst, arith, ⊎_elim, Option, None, Some, slice_get, slice_index_or, take, append_assoc}
+use Rattle.std.proofs.Common.{◌≡◌, ◌≢◌, ℕ, zero, suc, ◌+◌, ◌<◌, List, [], ◌∷◌, ◌++◌, length, drop, refl, sym, ap, ◌∙◌, subst, arith, ⊎_elim, Option, Some, slice_get, slice_index_or, take, append_assoc}
 use mathlib.Core.Option as options
 use mathlib.Core.Option.{some-injective}
 use mathlib.Core.Logic.{dite}
@@ -14,7 +14,6 @@ use Rattle.al_turn.specs.Histories.{GoesOn, Numbered, entries_of}
 use Rattle.al_turn.specs.Passes.{AllPasses, Closed, Ended, PassState}
 use Rattle.al_turn.specs.Rule.{Gathered, Past, Turning}
 use Rattle.al_turn.specs.Views.{joined_of, rank, with_joined}
-use Rattle.al_turn.specs.declared.view.Joined.{Joined}
 use Rattle.al_turn.specs.declared.view.View.{View}
 
 -- the view after the passes were joined into it, the last one first
@@ -95,11 +94,11 @@ module _ {T : Type 0} (mark : T → Mark) (start : Mark) (s : State (Option T) V
   is_home =
       ⊎_elim (λ h. h)
       (λ out. let h = out.1 in
-        let three : rank h.1.stage ≡ 3 = h.3 in
-        let live : 0 < h.1.number = ((r.line h.0 h.1 h.2).waits (omega arith)).3 in
-        absurd (dite (ℕ_discrete h.0 id)
-          (λ e. let zero_is = last_idle in let same : last ≡ h.1 = some-injective last h.1 (sym at ∙ ap (get_elem? s.views) (sym e) ∙ h.2) in let ranks = ap (λ (v : View). rank v.stage) same in omega arith)
-          (λ ne. spent h.0 h.1 h.2 live ne)))
+      let three : rank h.1.stage ≡ 3 = h.3 in
+      let live : 0 < h.1.number = ((r.line h.0 h.1 h.2).waits (omega arith)).3 in
+      absurd (dite (ℕ_discrete h.0 id)
+      (λ e. let zero_is = last_idle in let same : last ≡ h.1 = some-injective last h.1 (sym at ∙ ap (get_elem? s.views) (sym e) ∙ h.2) in let ranks = ap (λ (v : View). rank v.stage) same in omega arith)
+      (λ ne. spent h.0 h.1 h.2 live ne)))
       r.home
 
   is_ended : (k : ℕ) (p : PassState) → slice_get (first ∷ others) k ≡ Some p → Ended start p r.now
@@ -110,7 +109,7 @@ module _ {T : Type 0} (mark : T → Mark) (start : Mark) (s : State (Option T) V
       subst (λ (x : PassState). Ended start x r.now) same record {
         goes_on = subst (λ (m : Mark). GoesOn m r.now) last_seen f.seen;
         own = subst (λ (v : View). entries_of r.now.entries v.number (length start.entries) ≡ entries_of v.seen.entries v.number (length start.entries)) (same_but_joined first.view others)
-          (subst (λ (n : ℕ). entries_of r.now.entries last.number n ≡ entries_of last.seen.entries last.number n) f.base f.own_now);
+            (subst (λ (n : ℕ). entries_of r.now.entries last.number n ≡ entries_of last.seen.entries last.number n) f.base f.own_now);
       }
   is_ended (suc k) p at_p = let past = past_of k p at_p in record { goes_on = past.seen; own = past.own_now }
 
@@ -133,7 +132,7 @@ pub popped_table : (table : TableId) (ps : List PassState) (p : PassState) (rest
 popped_table table ps p rest before now q gone all split joined popped =
     let of_all = subst (AllByRecursion (λ (x : PassState). x.table ≡ table)) split (of_table table ps (λ k x at. (all.each k x at).1)) in
     all_at (λ (x : PassState). x.table ≡ table) now q gone
-      (subst (AllByRecursion (λ (x : PassState). x.table ≡ table)) (joined ∙ ap (λ (l : List PassState). l ++ gone) popped ∙ append_assoc now (q ∷ []) gone) of_all.1)
+    (subst (AllByRecursion (λ (x : PassState). x.table ≡ table)) (joined ∙ ap (λ (l : List PassState). l ++ gone) popped ∙ append_assoc now (q ∷ []) gone) of_all.1)
 
 -- The slot has the value, and the value is as `close` promises.
 pub closes : {T : Type 0} (mark : T → Mark) (start : Mark) (table : TableId) (id : ℕ) (v : View) (first : PassState) (others : List PassState) (ws : List ℕ) (xs : List (Option T)) (out : Option T)

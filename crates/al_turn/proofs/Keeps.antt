@@ -1,5 +1,5 @@
 -- What a step of one seat owes the rule, and that this is enough.
-use Rattle.std.proofs.Common.{◌≡◌, ◌≢◌, ◌⊎◌, ℕ, suc, ◌+◌, ◌<◌, ◌≤◌, List, [], ◌∷◌, length, drop, set, refl, sym, ap, ◌∙◌, subst, arith, ⊎_elim, inl, inr, Option, length-set}
+use Rattle.std.proofs.Common.{◌≡◌, ◌≢◌, ℕ, suc, ◌+◌, ◌<◌, ◌≤◌, List, [], ◌∷◌, length, drop, set, refl, sym, ap, ◌∙◌, subst, arith, ⊎_elim, inl, inr, Option, length-set}
 use mathlib.Core.Option as options
 use mathlib.Core.Option.{some-injective}
 use lib.ListN.{get_elem?}
@@ -9,8 +9,8 @@ use Rattle.al_model.specs.declared.kept.Mark.{Mark}
 use Rattle.al_turn.proofs.Grows.{goes_further}
 use Rattle.al_turn.proofs.Places.{each_set, total_set}
 use Rattle.al_turn.specs.Histories.{GoesOn, Numbered, entries_of}
-use Rattle.al_turn.specs.Rule.{Fits, Gathered, HomeIs, InLine, Past, Turning, to_draw, total}
-use Rattle.al_turn.specs.Views.{rank, turns_at_first}
+use Rattle.al_turn.specs.Rule.{Fits, Gathered, HomeIs, InLine, Turning, to_draw}
+use Rattle.al_turn.specs.Views.{rank}
 use Rattle.al_turn.specs.declared.view.Joined.{Joined}
 use Rattle.al_turn.specs.declared.view.View.{View}
 
@@ -21,8 +21,10 @@ module _ {T : Type 0} (mark : T → Mark) where
   home_stays homes views now id v w at not_out home =
       ⊎_elim
       inl
-      (λ out. let h = out.1 in inr (out.0,
-          (h.0, h.1, set_else views id h.0 w (λ e. not_out (ap (λ (x : View). rank x.stage) (some-injective v h.1 (sym at ∙ ap (get_elem? views) (sym e) ∙ h.2)) ∙ h.3)) ∙ h.2, h.3)))
+      (λ out. let h = out.1 in inr (
+        out.0,
+        (h.0, h.1, set_else views id h.0 w (λ e. not_out (ap (λ (x : View). rank x.stage) (some-injective v h.1 (sym at ∙ ap (get_elem? views) (sym e) ∙ h.2)) ∙ h.3)) ∙ h.2, h.3),
+      ))
       home
 
 module _ {T : Type 0} (mark : T → Mark) (start : Mark) where
@@ -53,8 +55,7 @@ module _ {T : Type 0} (mark : T → Mark) (start : Mark) where
       let live = c.live in
       let other : (k : ℕ) → j.number ≡ suc k → k ≢ id = λ k is same. let zero_is = p.spent id v (is ∙ ap suc same) c.at in absurd (omega arith) in
       let own_number = (r.fits id v c.at c.live).number in
-      let n = length-set s.views id w in
-      (
+      let n = length-set s.views id w in (
         record {
           spent = λ k u is at. ⊎_elim (λ t. absurd (other k is t.0)) (λ t. p.spent k u is t.1) (at_set s.views id k w u at);
           number = (omega arith, omega arith);
@@ -82,18 +83,18 @@ module _ {T : Type 0} (mark : T → Mark) (start : Mark) where
         home = c.home;
         line = each_set (λ by u. InLine drawn serving u) s.views id w c.mine c.others;
         apart = λ i j u x at_i at_j waits_i waits_j same.
-          ⊎_elim
-          (λ p. ⊎_elim
+            ⊎_elim
+            (λ p. ⊎_elim
             (λ q. p.0 ∙ sym q.0)
             (λ q. absurd (c.lone j x q.0 q.1 waits_j (subst (λ (y : View). 1 ≤ rank y.stage) (sym p.1) waits_i) (sym same ∙ ap (λ (y : View). y.ticket) (sym p.1))))
             (at_set s.views id j w x at_j))
-          (λ p. ⊎_elim
+            (λ p. ⊎_elim
             (λ q. absurd (c.lone i u p.0 p.1 waits_i (subst (λ (y : View). 1 ≤ rank y.stage) (sym q.1) waits_j) (same ∙ ap (λ (y : View). y.ticket) (sym q.1))))
             (λ q. r.apart i j u x p.1 q.1 waits_i waits_j same)
             (at_set s.views id j w x at_j))
-          (at_set s.views id i w u at_i);
+            (at_set s.views id i w u at_i);
         fits = subst (λ (k : ℕ). (by : ℕ) (u : View) → get_elem? (set s.views id w) by ≡ options.some u → 0 < u.number → Fits start k now by u) (sym n)
-          (each_set (λ by u. 0 < u.number → Fits start (length s.views) now by u) s.views id w (λ live. c.fits)
+            (each_set (λ by u. 0 < u.number → Fits start (length s.views) now by u) s.views id w (λ live. c.fits)
             (λ by u ne at live. let f = r.fits by u at live in let number = f.number in record {
               number = f.number;
               counts = f.counts;
@@ -104,8 +105,8 @@ module _ {T : Type 0} (mark : T → Mark) (start : Mark) where
               looks = c.looks by u ne at;
             }));
         gone = each_set (λ by u. Gathered start (set s.views id w) now u.joined) s.views id w
-          (subst (Gathered start (set s.views id w) now) (sym c.joined) (gathered_on s r id v w drawn serving now homes c v.joined (r.gone id v c.at)))
-          (λ by u ne at. gathered_on s r id v w drawn serving now homes c u.joined (r.gone by u at));
+            (subst (Gathered start (set s.views id w) now) (sym c.joined) (gathered_on s r id v w drawn serving now homes c v.joined (r.gone id v c.at)))
+            (λ by u ne at. gathered_on s r id v w drawn serving now homes c u.joined (r.gone by u at));
         room = omega arith;
         few = omega arith;
         origins = subst (λ (k : ℕ). Numbered k (drop (length start.entries) now.entries)) (sym n) c.origins;

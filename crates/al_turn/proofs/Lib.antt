@@ -5,3 +5,4 @@ pub mod Moves
 pub mod Seats
 pub mod Splits
 pub mod Closing
+pub mod Counting

@@ -1,5 +1,5 @@
 -- The steps of a turn keep the rule, and tell what they are said to tell.
-use Rattle.std.proofs.Common.{◌≡◌, ◌≢◌, ◌⊎◌, ◌==◌, ℕ, suc, ◌+◌, ◌-◌, ◌*◌, ◌%◌, ◌^◌, ◌<◌, ◌≤◌, eqb, Bool, true, false, cond, List, [], ◌∷◌, length, drop, set, get_or, slice_index, slice_set, refl, sym, ap, ◌∙◌, subst, arith, ⊎_elim, inl, inr, Option, None, Some, unwrap_or, ne_eqb, eq-eqb, mod-eq_of_lt}
+use Rattle.std.proofs.Common.{◌≡◌, ◌≢◌, ◌==◌, ℕ, ◌+◌, ◌-◌, ◌%◌, ◌^◌, ◌<◌, ◌≤◌, true, false, cond, List, [], ◌∷◌, length, set, slice_index, slice_set, refl, sym, ap, ◌∙◌, subst, arith, ⊎_elim, inl, inr, Option, Some, unwrap_or, ne_eqb, mod-eq_of_lt}
 use mathlib.Core.Option as options
 use mathlib.Core.Option.{some-injective}
 use mathlib.Core.Logic.{dite}
@@ -12,10 +12,10 @@ use Rattle.al_model.specs.declared.kept.Mark.{Mark}
 use Rattle.al_turn.proofs.Grows.{goes_further, goes_on_itself, is_longer, numbered_longer, own_stays}
 use Rattle.al_turn.proofs.Keeps.{Change, home_stays, keeps_rule}
 use Rattle.al_turn.proofs.Places.{draws_idle, draws_waiting, draws_within, is_place}
-use Rattle.al_turn.specs.Histories.{GoesOn, MadeBy, Numbered, entries_of, further}
-use Rattle.al_turn.specs.Rule.{Fits, HomeIs, InLine, Turning, to_draw, total}
-use Rattle.al_turn.specs.Views.{Fetched, Found, GivenBack, counted, drew, ended, fetched, looked, rank, turns_at_first}
-use Rattle.al_turn.specs.declared.view.Stage.TheVariants.{Idle, Waiting, Served, Holding, Given}
+use Rattle.al_turn.specs.Histories.{GoesOn, MadeBy, further}
+use Rattle.al_turn.specs.Rule.{InLine, Turning, to_draw}
+use Rattle.al_turn.specs.Views.{Fetched, Found, GivenBack, counted, drew, ended, fetched, looked, rank}
+use Rattle.al_turn.specs.declared.view.Stage.TheVariants.{Served}
 use Rattle.al_turn.specs.declared.view.View.{View}
 
 module _ {T : Type 0} where
@@ -56,8 +56,8 @@ module _ {T : Type 0} (mark : T → Mark) (start : Mark) where
   at_home s r id v at turn not_out =
       ⊎_elim (λ h. h)
       (λ out. let h = out.1 in absurd (dite (ℕ_discrete h.0 id)
-          (λ e. not_out (ap (λ (x : View). rank x.stage) (some-injective v h.1 (sym at ∙ ap (get_elem? s.views) (sym e) ∙ h.2)) ∙ h.3))
-          (λ ne. let three = h.3 in only_turn s r id v at turn h.0 h.1 ne h.2 (omega arith))))
+      (λ e. not_out (ap (λ (x : View). rank x.stage) (some-injective v h.1 (sym at ∙ ap (get_elem? s.views) (sym e) ∙ h.2)) ∙ h.3))
+      (λ ne. let three = h.3 in only_turn s r id v at turn h.0 h.1 ne h.2 (omega arith))))
       r.home
 
   pub draws : (slots id : ℕ) (v : View) → 0 < v.number → rank v.stage ≡ 0 → 0 < v.left
@@ -87,13 +87,12 @@ module _ {T : Type 0} (mark : T → Mark) (start : Mark) where
         origins = r.origins;
       } in
       let fits_word : (r.drawn + 1) % 2 ^ 64 ≡ r.drawn + 1 = mod-eq_of_lt (omega arith) in
-      subst (λ ws. Goes (Turning mark start) s id (v, []) 0 (λ n. (n + 1) % 2 ^ 64) (λ n after. after ≡ (drew v n, [])) ws s.homes) (sym r.words)
-      (
+      subst (λ ws. Goes (Turning mark start) s id (v, []) 0 (λ n. (n + 1) % 2 ^ 64) (λ n after. after ≡ (drew v n, [])) ws s.homes) (sym r.words) (
         w,
         keeps,
         tt,
         subst (λ n. Turning mark start record { words = n ∷ r.serving ∷ length r.now.entries ∷ []; homes = s.homes; views = set s.views id w }) (sym fits_word)
-          (keeps_rule mark start s r id v w (r.drawn + 1) r.serving r.now s.homes change),
+            (keeps_rule mark start s r id v w (r.drawn + 1) r.serving r.now s.homes change),
         refl,
       )
 
@@ -121,8 +120,8 @@ module _ {T : Type 0} (mark : T → Mark) (start : Mark) where
         mine = record {
           waits = λ h. line;
           turn = dite (ℕ_discrete r.serving v.ticket)
-            (λ e h. sym e)
-            (λ ne. subst (λ b. 2 ≤ rank (cond b Served v.stage) → v.ticket ≡ r.serving) (sym (ne_eqb r.serving v.ticket ne)) (λ h. absurd (omega arith)));
+              (λ e h. sym e)
+              (λ ne. subst (λ b. 2 ≤ rank (cond b Served v.stage) → v.ticket ≡ r.serving) (sym (ne_eqb r.serving v.ticket ne)) (λ h. absurd (omega arith)));
         };
         lone = λ by u ne at_by waits_by waits. alone_with s r id v at (omega arith) by u ne at_by waits_by;
         looks = same_looks s r id;
@@ -162,8 +161,7 @@ module _ {T : Type 0} (mark : T → Mark) (start : Mark) where
         origins = r.origins;
       } in
       subst (λ ws. Goes (Turning mark start) s id (v, []) 2 (λ n. n) (λ n after. Fetched mark (v, []) n after) ws s.homes) (sym r.words)
-      (subst (λ hs. Goes (Turning mark start) s id (v, []) 2 (λ n. n) (λ n after. Fetched mark (v, []) n after) (r.drawn ∷ r.serving ∷ length r.now.entries ∷ []) hs) (sym home.1)
-      (
+      (subst (λ hs. Goes (Turning mark start) s id (v, []) 2 (λ n. n) (λ n after. Fetched mark (v, []) n after) (r.drawn ∷ r.serving ∷ length r.now.entries ∷ []) hs) (sym home.1) (
         w,
         takes 0 (Some home.0),
         refl,
@@ -224,13 +222,12 @@ module _ {T : Type 0} (mark : T → Mark) (start : Mark) where
       let word_is : (length r.now.entries + added) % 2 ^ 64 ≡ length (mark x).entries = ap (λ n. n % 2 ^ 64) sum_now ∙ mod-eq_of_lt fits_word in
       let play : ℕ → Me (Option T) View → Type 0 = λ n after. GivenBack mark (v, (0, Some x) ∷ []) after in
       subst (λ ws. Goes (Turning mark start) s id (v, (0, Some x) ∷ []) 2 (λ n. (n + added) % 2 ^ 64) play ws s.homes) (sym r.words)
-      (subst (λ hs. Goes (Turning mark start) s id (v, (0, Some x) ∷ []) 2 (λ n. (n + added) % 2 ^ 64) play (r.drawn ∷ r.serving ∷ length r.now.entries ∷ []) hs) (sym home.1)
-      (
+      (subst (λ hs. Goes (Turning mark start) s id (v, (0, Some x) ∷ []) 2 (λ n. (n + added) % 2 ^ 64) play (r.drawn ∷ r.serving ∷ length r.now.entries ∷ []) hs) (sym home.1) (
         w,
         gives,
         tt,
         subst (λ n. Turning mark start record { words = r.drawn ∷ r.serving ∷ n ∷ []; homes = options.some (Some x) ∷ []; views = set s.views id w }) (sym word_is)
-          (keeps_rule mark start s r id v w r.drawn r.serving (mark x) (options.some (Some x) ∷ []) change),
+            (keeps_rule mark start s r id v w r.drawn r.serving (mark x) (options.some (Some x) ∷ []) change),
         (λ y e. let same : x ≡ y = ap (value_in x) e in let f : T → Me (Option T) View = λ z. (counted v (mark z), []) in ap f same),
       ))
 
@@ -264,12 +261,11 @@ module _ {T : Type 0} (mark : T → Mark) (start : Mark) where
         origins = r.origins;
       } in
       let fits_word : (r.serving + 1) % 2 ^ 64 ≡ r.serving + 1 = mod-eq_of_lt (omega arith) in
-      subst (λ ws. Goes (Turning mark start) s id (v, []) 1 (λ n. (n + 1) % 2 ^ 64) (λ n after. after ≡ (ended v, [])) ws s.homes) (sym r.words)
-      (
+      subst (λ ws. Goes (Turning mark start) s id (v, []) 1 (λ n. (n + 1) % 2 ^ 64) (λ n after. after ≡ (ended v, [])) ws s.homes) (sym r.words) (
         w,
         keeps,
         tt,
         subst (λ n. Turning mark start record { words = r.drawn ∷ n ∷ length r.now.entries ∷ []; homes = s.homes; views = set s.views id w }) (sym fits_word)
-          (keeps_rule mark start s r id v w r.drawn (r.serving + 1) r.now s.homes change),
+            (keeps_rule mark start s r id v w r.drawn (r.serving + 1) r.now s.homes change),
         refl,
       )

@@ -1,5 +1,5 @@
 -- The steps of a turn at a seat that is known by an equation, and what the seat is after them.
-use Rattle.std.proofs.Common.{◌≡◌, ◌≢◌, ◌==◌, ℕ, suc, ◌+◌, ◌%◌, ◌^◌, ◌<◌, Bool, false, cond, List, [], ◌∷◌, length, refl, sym, ap, ◌∙◌, subst, Option, None, Some, unwrap_or, eq-eqb, ne_eqb}
+use Rattle.std.proofs.Common.{◌≡◌, ◌≢◌, ◌==◌, ℕ, ◌+◌, ◌%◌, ◌^◌, ◌<◌, Bool, false, cond, List, [], ◌∷◌, length, refl, sym, ap, ◌∙◌, subst, Option, None, Some, unwrap_or, eq-eqb, ne_eqb}
 use Rattle.atomic_table.specs.Table.{Allows, Me, rest}
 use Rattle.al_model.specs.declared.kept.Mark.{Mark}
 use Rattle.al_turn.proofs.Moves.{counts, draws, ends, fetches, looks}
@@ -37,7 +37,7 @@ module _ {T : Type 0} (mark : T → Mark) (start : Mark) where
       → Allows (Turning mark start) slots id me 0 (λ n. (n + 1) % 2 ^ 64) (λ n after. after ≡ (drew me.0 n, me.1))
   draws_as slots id me idle some_left =
       subst (λ (m : Me (Option T) View). Allows (Turning mark start) slots id m 0 (λ n. (n + 1) % 2 ^ 64) (λ n after. after ≡ (drew m.0 n, m.1)))
-        (with_slots me.0 [] me.1 (sym idle.slots)) (draws mark start slots id me.0 idle.number idle.stage some_left)
+      (with_slots me.0 [] me.1 (sym idle.slots)) (draws mark start slots id me.0 idle.number idle.stage some_left)
 
   pub looks_as : (slots id : ℕ) (me : Me (Option T) View) (v : View) → me ≡ (v, []) → 0 < v.number → rank v.stage ≡ 1
       → Allows (Turning mark start) slots id me 1 (λ n. n) (λ n after. after ≡ (looked me.0 n, me.1))
@@ -55,7 +55,7 @@ module _ {T : Type 0} (mark : T → Mark) (start : Mark) where
       → Allows (Turning mark start) slots id me 2 (λ n. (n + added) % 2 ^ 64) (λ n after. GivenBack mark me after)
   counts_as slots id me v x added is live out grows made sum fits =
       subst (λ (m : Me (Option T) View). Allows (Turning mark start) slots id m 2 (λ n. (n + added) % 2 ^ 64) (λ n after. GivenBack mark m after)) (sym is)
-        (counts mark start slots id v x added live out grows made sum fits)
+      (counts mark start slots id v x added live out grows made sum fits)
 
   pub ends_as : (slots id : ℕ) (me : Me (Option T) View) (v : View) → me ≡ (v, []) → 0 < v.number → rank v.stage ≡ 4
       → Allows (Turning mark start) slots id me 1 (λ n. (n + 1) % 2 ^ 64) (λ n after. after ≡ (ended me.0, me.1))

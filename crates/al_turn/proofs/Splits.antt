@@ -1,17 +1,17 @@
 -- Pass 1 makes another pass, and takes in passes at the end.
-use Rattle.std.proofs.Common.{◌≡◌, ◌≢◌, ◌⊎◌, ℕ, zero, suc, ◌+◌, ◌-◌, ◌*◌, ◌<◌, ◌≤◌, List, [], ◌∷◌, ◌++◌, length, drop, set, refl, sym, ap, ◌∙◌, subst, arith, ⊎_elim, inl, inr, Option, Some, length-set, length-append}
+use Rattle.std.proofs.Common.{◌≡◌, ◌⊎◌, ℕ, zero, suc, ◌<◌, ◌≤◌, List, [], ◌∷◌, ◌++◌, length, drop, set, refl, sym, ap, ◌∙◌, subst, arith, ⊎_elim, inl, inr, length-set, length-append}
 use mathlib.Core.Option as options
 use mathlib.Core.Option.{some-injective}
 use lib.ListN.{get_elem?}
-use Rattle.atomic_table.proofs.Lists.{at_last, at_longer, at_set, set_else, set_here}
-use Rattle.atomic_table.specs.Table.{Joins, Splits, State}
+use Rattle.atomic_table.proofs.Lists.{at_longer, at_set, set_else}
+use Rattle.atomic_table.specs.Table.{Joins, Splits}
 use Rattle.al_model.specs.declared.kept.Mark.{Mark}
 use Rattle.al_turn.proofs.Grows.{is_longer, none_yet, numbered_more}
 use Rattle.al_turn.proofs.Keeps.{home_stays}
-use Rattle.al_turn.proofs.Places.{draws_idle, each_set, is_place, total-append, total_set}
-use Rattle.al_turn.specs.Histories.{GoesOn, Numbered, entries_of}
-use Rattle.al_turn.specs.Rule.{Fits, Gathered, HomeIs, InLine, Past, Turning, to_draw, total}
-use Rattle.al_turn.specs.Views.{joined_of, next_view, one_more, rank, spent_view, turns_at_first, with_joined}
+use Rattle.al_turn.proofs.Places.{each_set, is_place, total-append, total_set}
+use Rattle.al_turn.specs.Histories.{Numbered, entries_of}
+use Rattle.al_turn.specs.Rule.{Fits, Gathered, InLine, Past, Turning}
+use Rattle.al_turn.specs.Views.{joined_of, next_view, one_more, rank, spent_view, with_joined}
 use Rattle.al_turn.specs.declared.view.Joined.{Joined}
 use Rattle.al_turn.specs.declared.view.View.{View}
 
@@ -37,8 +37,7 @@ module _ {T : Type 0} (mark : T → Mark) (start : Mark) where
   gathered_more views more now longer spent [] past = tt
   gathered_more views more now longer spent (j ∷ js) past =
       let p = past.0 in
-      let number = p.number in
-      (
+      let number = p.number in (
         record {
           spent = λ k u is at. spent k u (omega arith) at (λ x at_x. p.spent k x is at_x);
           number = (omega arith, omega arith);
@@ -64,14 +63,14 @@ module _ {T : Type 0} (mark : T → Mark) (start : Mark) where
       let sum_all = total-append changed (new ∷ []) in
       let room = r.room in
       let gone : (js : List Joined) → Gathered start s.views r.now js → Gathered start all r.now js =
-            gathered_more s.views all r.now (omega arith)
-              (λ k u within at_u old. ⊎_elim
-                (λ p. absurd (omega arith))
-                (λ p. ⊎_elim
-                  (λ q. let zero_is = old v (ap (get_elem? s.views) q.0 ∙ at) in absurd (omega arith))
-                  (λ q. old u q.1)
-                  (at_set s.views id k w u p.1))
-                (at_one_more changed new k u at_u)) in
+      gathered_more s.views all r.now (omega arith)
+      (λ k u within at_u old. ⊎_elim
+      (λ p. absurd (omega arith))
+      (λ p. ⊎_elim
+      (λ q. let zero_is = old v (ap (get_elem? s.views) q.0 ∙ at) in absurd (omega arith))
+      (λ q. old u q.1)
+      (at_set s.views id k w u p.1))
+      (at_one_more changed new k u at_u)) in
       record {
         drawn = r.drawn;
         serving = r.serving;
@@ -79,24 +78,24 @@ module _ {T : Type 0} (mark : T → Mark) (start : Mark) where
         words = r.words;
         behind = r.behind;
         home = ⊎_elim
-          inl
-          (λ out. let h = out.1 in inr (out.0, (h.0, h.1, at_longer changed (new ∷ []) h.0 h.1 h.2, h.3)))
-          (home_stays mark s.homes s.views r.now id v w at (λ e. absurd (omega arith)) r.home);
+            inl
+            (λ out. let h = out.1 in inr (out.0, (h.0, h.1, at_longer changed (new ∷ []) h.0 h.1 h.2, h.3)))
+            (home_stays mark s.homes s.views r.now id v w at (λ e. absurd (omega arith)) r.home);
         line = each_more (λ by u. InLine r.drawn r.serving u) changed new
-          (record { waits = λ h. absurd (omega arith); turn = λ h. absurd (omega arith) })
-          (each_set (λ by u. InLine r.drawn r.serving u) s.views id w (let l = r.line id v at in record { waits = l.waits; turn = l.turn }) (λ by u ne at_by. r.line by u at_by));
+            (record { waits = λ h. absurd (omega arith); turn = λ h. absurd (omega arith) })
+            (each_set (λ by u. InLine r.drawn r.serving u) s.views id w (let l = r.line id v at in record { waits = l.waits; turn = l.turn }) (λ by u ne at_by. r.line by u at_by));
         apart = λ i j u x at_i at_j waits_i waits_j same.
-          let place : (k : ℕ) (y : View) → get_elem? all k ≡ options.some y → 1 ≤ rank y.stage → get_elem? s.views k ≡ options.some y = λ k y at_y waits.
+            let place : (k : ℕ) (y : View) → get_elem? all k ≡ options.some y → 1 ≤ rank y.stage → get_elem? s.views k ≡ options.some y = λ k y at_y waits.
             ⊎_elim
             (λ p. let none : rank new.stage ≡ rank y.stage = ap (λ (z : View). rank z.stage) p.1 in absurd (omega arith))
             (λ p. ⊎_elim
-              (λ q. let same_rank : rank v.stage ≡ rank y.stage = ap (λ (z : View). rank z.stage) q.1 in absurd (omega arith))
-              (λ q. q.1)
-              (at_set s.views id k w y p.1))
+            (λ q. let same_rank : rank v.stage ≡ rank y.stage = ap (λ (z : View). rank z.stage) q.1 in absurd (omega arith))
+            (λ q. q.1)
+            (at_set s.views id k w y p.1))
             (at_one_more changed new k y at_y) in
-          r.apart i j u x (place i u at_i waits_i) (place j x at_j waits_j) waits_i waits_j same;
+            r.apart i j u x (place i u at_i waits_i) (place j x at_j waits_j) waits_i waits_j same;
         fits = subst (λ (k : ℕ). (by : ℕ) (u : View) → get_elem? all by ≡ options.some u → 0 < u.number → Fits start k r.now by u) (sym longer)
-          (each_more (λ by u. 0 < u.number → Fits start (suc (length s.views)) r.now by u) changed new
+            (each_more (λ by u. 0 < u.number → Fits start (suc (length s.views)) r.now by u) changed new
             (λ live. record {
               number = omega arith;
               counts = λ one. absurd (omega arith);
@@ -104,15 +103,15 @@ module _ {T : Type 0} (mark : T → Mark) (start : Mark) where
               seen = f.seen;
               deep = f.deep;
               own_now = subst (λ (k : ℕ). entries_of r.now.entries new.number k ≡ entries_of v.seen.entries new.number k) (sym f.base)
-                (none_yet v.seen.entries r.now.entries (length s.views) new.number (length start.entries) (is_longer start.entries v.seen.entries f.deep.begins) f.seen.begins (omega arith) r.origins);
+                  (none_yet v.seen.entries r.now.entries (length s.views) new.number (length start.entries) (is_longer start.entries v.seen.entries f.deep.begins) f.seen.begins (omega arith) r.origins);
               looks = λ h. absurd (omega arith);
             })
             (each_set (λ by u. 0 < u.number → Fits start (suc (length s.views)) r.now by u) s.views id w
-              (λ live. record { number = f.number; counts = λ one. omega arith; base = f.base; seen = f.seen; deep = f.deep; own_now = f.own_now; looks = f.looks })
-              (λ by u ne at_by live. let g = r.fits by u at_by live in let place = g.number in let mine = f.number in
-                record { number = g.number; counts = λ one. absurd (ne (omega arith)); base = g.base; seen = g.seen; deep = g.deep; own_now = g.own_now; looks = g.looks })));
+            (λ live. record { number = f.number; counts = λ one. omega arith; base = f.base; seen = f.seen; deep = f.deep; own_now = f.own_now; looks = f.looks })
+            (λ by u ne at_by live. let g = r.fits by u at_by live in let place = g.number in let mine = f.number in
+            record { number = g.number; counts = λ one. absurd (ne (omega arith)); base = g.base; seen = g.seen; deep = g.deep; own_now = g.own_now; looks = g.looks })));
         gone = each_more (λ by u. Gathered start all r.now u.joined) changed new tt
-          (each_set (λ by u. Gathered start all r.now u.joined) s.views id w (gone v.joined (r.gone id v at)) (λ by u ne at_by. gone u.joined (r.gone by u at_by)));
+            (each_set (λ by u. Gathered start all r.now u.joined) s.views id w (gone v.joined (r.gone id v at)) (λ by u ne at_by. gone u.joined (r.gone by u at_by)));
         room = omega arith;
         few = omega arith;
         origins = numbered_more (length s.views) (length all) (drop (length start.entries) r.now.entries) (omega arith) r.origins;
@@ -137,31 +136,31 @@ module _ {T : Type 0} (mark : T → Mark) (start : Mark) where
       let other_number = g.number in
       let other_place = is_place s.views other w at_w in
       let gone : (js : List Joined) → Gathered start s.views r.now js → Gathered start all r.now js =
-            gathered_more s.views all r.now (omega arith)
-              (λ k u within at_u old. ⊎_elim
-                (λ p. ap (λ (x : View). x.number) (sym p.1))
-                (λ p. ⊎_elim
-                  (λ q. ap (λ (x : View). x.number) (sym q.1) ∙ old v (ap (get_elem? s.views) q.0 ∙ at))
-                  (λ q. old u q.1)
-                  (at_set s.views id k both u p.1))
-                (at_set changed other k spent_view u at_u)) in
+      gathered_more s.views all r.now (omega arith)
+      (λ k u within at_u old. ⊎_elim
+      (λ p. ap (λ (x : View). x.number) (sym p.1))
+      (λ p. ⊎_elim
+      (λ q. ap (λ (x : View). x.number) (sym q.1) ∙ old v (ap (get_elem? s.views) q.0 ∙ at))
+      (λ q. old u q.1)
+      (at_set s.views id k both u p.1))
+      (at_set changed other k spent_view u at_u)) in
       let joined_w : Past start all r.now (joined_of w) = record {
         spent = λ k u is at_u. ⊎_elim
-          (λ p. ap (λ (x : View). x.number) (sym p.1))
-          (λ p. absurd (p.0 (omega arith)))
-          (at_set changed other k spent_view u at_u);
+            (λ p. ap (λ (x : View). x.number) (sym p.1))
+            (λ p. absurd (p.0 (omega arith)))
+            (at_set changed other k spent_view u at_u);
         number = (omega arith, omega arith);
         seen = g.seen;
         own_now = subst (λ (k : ℕ). entries_of r.now.entries w.number k ≡ entries_of w.seen.entries w.number k) g.base g.own_now;
       } in
       let place : (k : ℕ) (y : View) → get_elem? all k ≡ options.some y → 1 ≤ rank y.stage → get_elem? s.views k ≡ options.some y = λ k y at_y waits.
-            ⊎_elim
-            (λ p. let none : 0 ≡ rank y.stage = ap (λ (z : View). rank z.stage) p.1 in absurd (omega arith))
-            (λ p. ⊎_elim
-              (λ q. let same_rank : rank v.stage ≡ rank y.stage = ap (λ (z : View). rank z.stage) q.1 in absurd (omega arith))
-              (λ q. q.1)
-              (at_set s.views id k both y p.1))
-            (at_set changed other k spent_view y at_y) in
+      ⊎_elim
+      (λ p. let none : 0 ≡ rank y.stage = ap (λ (z : View). rank z.stage) p.1 in absurd (omega arith))
+      (λ p. ⊎_elim
+      (λ q. let same_rank : rank v.stage ≡ rank y.stage = ap (λ (z : View). rank z.stage) q.1 in absurd (omega arith))
+      (λ q. q.1)
+      (at_set s.views id k both y p.1))
+      (at_set changed other k spent_view y at_y) in
       record {
         drawn = r.drawn;
         serving = r.serving;
@@ -169,18 +168,18 @@ module _ {T : Type 0} (mark : T → Mark) (start : Mark) where
         words = r.words;
         behind = r.behind;
         home = home_stays mark s.homes changed r.now other w spent_view at_w_after (λ e. absurd (omega arith))
-          (home_stays mark s.homes s.views r.now id v both at (λ e. absurd (omega arith)) r.home);
+            (home_stays mark s.homes s.views r.now id v both at (λ e. absurd (omega arith)) r.home);
         line = each_set (λ by u. InLine r.drawn r.serving u) changed other spent_view
-          (record { waits = λ h. absurd (omega arith); turn = λ h. absurd (omega arith) })
-          (λ by u _ at_by. each_set (λ by u. InLine r.drawn r.serving u) s.views id both (let l = r.line id v at in record { waits = l.waits; turn = l.turn }) (λ by u ne at_by. r.line by u at_by) by u at_by);
+            (record { waits = λ h. absurd (omega arith); turn = λ h. absurd (omega arith) })
+            (λ by u _ at_by. each_set (λ by u. InLine r.drawn r.serving u) s.views id both (let l = r.line id v at in record { waits = l.waits; turn = l.turn }) (λ by u ne at_by. r.line by u at_by) by u at_by);
         apart = λ i j u x at_i at_j waits_i waits_j same. r.apart i j u x (place i u at_i waits_i) (place j x at_j waits_j) waits_i waits_j same;
         fits = subst (λ (k : ℕ). (by : ℕ) (u : View) → get_elem? all by ≡ options.some u → 0 < u.number → Fits start k r.now by u) (sym same_length)
-          (each_set (λ by u. 0 < u.number → Fits start (length s.views) r.now by u) changed other spent_view (λ none. absurd (omega arith))
+            (each_set (λ by u. 0 < u.number → Fits start (length s.views) r.now by u) changed other spent_view (λ none. absurd (omega arith))
             (λ by u _ at_by. each_set (λ by u. 0 < u.number → Fits start (length s.views) r.now by u) s.views id both
-              (λ _. record { number = f.number; counts = f.counts; base = f.base; seen = f.seen; deep = f.deep; own_now = f.own_now; looks = f.looks })
-              (λ by u ne at_by. r.fits by u at_by) by u at_by));
+            (λ _. record { number = f.number; counts = f.counts; base = f.base; seen = f.seen; deep = f.deep; own_now = f.own_now; looks = f.looks })
+            (λ by u ne at_by. r.fits by u at_by) by u at_by));
         gone = each_set (λ by u. Gathered start all r.now u.joined) changed other spent_view tt
-          (λ by u _ at_by. each_set (λ by u. Gathered start all r.now u.joined) s.views id both (joined_w, gone v.joined (r.gone id v at)) (λ by u ne at_by. gone u.joined (r.gone by u at_by)) by u at_by);
+            (λ by u _ at_by. each_set (λ by u. Gathered start all r.now u.joined) s.views id both (joined_w, gone v.joined (r.gone id v at)) (λ by u ne at_by. gone u.joined (r.gone by u at_by)) by u at_by);
         room = omega arith;
         few = omega arith;
         origins = subst (λ (k : ℕ). Numbered k (drop (length start.entries) r.now.entries)) (sym same_length) r.origins;

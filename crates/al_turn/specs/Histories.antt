@@ -1,5 +1,5 @@
 -- Histories as lists of entries: which entries are whose, and how one history goes on from another.
-use Rattle.std.specs.Prelude.{◌≡◌, ◌==◌, ℕ, zero, suc, ◌+◌, ◌≤◌, Bool, true, false, List, [], ◌∷◌, ◌++◌, drop, length}
+use Rattle.std.specs.Prelude.{◌≡◌, ◌==◌, ℕ, zero, suc, ◌+◌, ◌≤◌, Bool, true, false, List, ◌++◌, drop, length}
 use Rattle.std.specs.List.{AllByRecursion, filter}
 use Rattle.al_model.specs.declared.entry.Entry.{Entry}
 use Rattle.al_model.specs.declared.kept.Mark.{Mark}

@@ -1,5 +1,5 @@
 -- What calls of `Turns` leave as it is.
-use Rattle.std.specs.Prelude.{◌≡◌, ◌<◌, ◌-◌, ℕ, Option, None, Some}
+use Rattle.std.specs.Prelude.{◌<◌, ◌-◌, ℕ, Option, None, Some}
 use Rattle.atomic_table.specs.Seated.{TableId}
 
 -- Whose turns they are. `Alone` has no table, number 0, and 0 for the others.

@@ -1,5 +1,5 @@
 -- Passes and turnstiles as contracts see them.
-use Rattle.std.specs.Prelude.{◌≡◌, ◌==◌, ℕ, ◌+◌, ◌-◌, ◌<◌, ◌≤◌, Bool, true, false, List, [], ◌∷◌, Option, None, Some, drop, length, slice_get}
+use Rattle.std.specs.Prelude.{◌≡◌, ◌==◌, ℕ, ◌+◌, ◌<◌, ◌≤◌, Bool, true, false, List, [], ◌∷◌, Option, None, Some, drop, length, slice_get}
 use Rattle.atomic_table.specs.Seated.{TableId}
 use Rattle.atomic_table.specs.Table.{Me}
 use Rattle.al_model.specs.declared.kept.Mark.{Mark}
@@ -18,15 +18,21 @@ pub record PassState : Type 0 where
   pub table : TableId
   pub view : View
 
+-- What it has seen is no shorter than the history was when the turnstile was made.
+abbrev pub IsSince : View → Type 0
+IsSince v = v.base ≤ length v.seen.entries
+
 -- A pass between turns has no ticket and no slot.
 pub record IsIdle {T : Type 0} (me : Me (Option T) View) : Type 0 where
   pub stage : rank me.0.stage ≡ 0
   pub slots : me.1 ≡ []
   pub number : 0 < me.0.number
+  pub since : IsSince me.0
 
 -- A seat between calls: it is idle, or the value is out with it, and it knows how long the history was.
 pub record IsSeated {T : Type 0} (me : Me (Option T) View) (before : ℕ) : Type 0 where
   pub number : 0 < me.0.number
+  pub since : IsSince me.0
   pub idle : is_taken me.0 ≡ false → (rank me.0.stage ≡ 0) × (me.1 ≡ [])
   pub out : is_taken me.0 ≡ true → (me.1 ≡ (0, None) ∷ []) × (before ≡ length me.0.seen.entries)
 
@@ -53,3 +59,12 @@ pub record Closed (start : Mark) (passes : List PassState) (last : Mark) : Type 
   pub goes_on : GoesOn start last
   pub each : (k : ℕ) (p : PassState) → slice_get passes k ≡ Some p → Ended start p last
   pub origins : Numbered (length passes) (drop (length start.entries) last.entries)
+
+-- A value without a lock: what was seen of it last, and whether it is out.
+pub record AloneState : Type 0 where
+  pub seen : Mark
+  pub taken : Bool
+
+-- turns at a value without a lock are of no turnstile and no pass
+abbrev pub no_identity : Identity
+no_identity = record { table = None; number = 0; base = 0; made = 0 }

@@ -1,6 +1,6 @@
 -- The rule of the turnstile's table, which holds between any two atomic steps.
 -- Its words are the next ticket, the ticket that is served, and the length of the history; its one slot has the value, or nothing where a pass has it.
-use Rattle.std.specs.Prelude.{◌≡◌, ◌⊎◌, ℕ, zero, suc, ◌+◌, ◌-◌, ◌*◌, ◌^◌, ◌<◌, ◌≤◌, nat_lt, cond, List, [], ◌∷◌, Option, None, Some, drop, length}
+use Rattle.std.specs.Prelude.{◌≡◌, ◌⊎◌, ℕ, suc, ◌+◌, ◌-◌, ◌*◌, ◌<◌, ◌≤◌, nat_lt, cond, List, [], ◌∷◌, Option, Some, drop, length}
 use lib.ListN.{get_elem?}
 use Rattle.atomic_table.specs.Table.{State}
 use Rattle.al_model.specs.declared.kept.Mark.{Mark}

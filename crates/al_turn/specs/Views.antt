@@ -1,9 +1,8 @@
 -- What a pass knows, before and after each step.
-use Rattle.std.specs.Prelude.{◌≡◌, ◌==◌, ℕ, ◌+◌, ◌-◌, ◌*◌, ◌^◌, ◌<◌, ◌≤◌, Bool, cond, List, [], ◌∷◌, Option, None, Some, length}
+use Rattle.std.specs.Prelude.{◌≡◌, ◌==◌, ℕ, ◌+◌, ◌-◌, ◌^◌, ◌≤◌, Bool, cond, [], ◌∷◌, Option, Some, length}
 use Rattle.atomic_table.specs.Table.{Me}
-use Rattle.al_model.specs.declared.kept.Fixed.{Fixed}
 use Rattle.al_model.specs.declared.kept.Mark.{Mark}
-use Rattle.al_turn.specs.Histories.{GoesOn, MadeByOthers, entries_of, further}
+use Rattle.al_turn.specs.Histories.{GoesOn, entries_of}
 use Rattle.al_turn.specs.declared.view.Joined.{Joined}
 use Rattle.al_turn.specs.declared.view.Stage.{Stage}
 use Rattle.al_turn.specs.declared.view.Stage.TheVariants.{Idle, Waiting, Served, Holding, Given}

@@ -4,17 +4,17 @@
 //! and every value that it takes begins with it.
 #![tactic(auto)]
 
-//pub mod alone;
-//pub mod laws;
+pub mod alone;
+pub mod laws;
 pub mod pass;
-//pub mod seated;
+pub mod seated;
 mod steps;
 pub mod turns;
 pub mod turnstile;
 pub mod view;
 
-//pub use alone::Alone;
+pub use alone::Alone;
 pub use pass::Pass;
-//pub use seated::Seated;
+pub use seated::Seated;
 pub use turns::Turns;
 pub use turnstile::Turnstile;

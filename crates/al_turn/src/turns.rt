@@ -1,7 +1,7 @@
 ghost use Rattle.al_model.specs.declared.kept.Mark.{Mark};
-ghost use Rattle.al_turn.specs.Histories.{GoesOn, MadeBy, MadeByOthers, further};
+ghost use Rattle.al_turn.specs.Histories.{GoesOn, MadeBy, MadeByOthers, entries_of, further};
 ghost use Rattle.al_turn.specs.Identities.{HasTurn, Identity, one_less};
-ghost use Rattle.std.specs.Prelude.{◌≡◌, ℕ, Bool, Option, false, true};
+ghost use Rattle.std.specs.Prelude.{◌≡◌, ◌≤◌, ℕ, Bool, Option, false, length, true};
 
 use al_model::Kept;
 
@@ -28,8 +28,10 @@ pub trait Turns<T: Kept> {
         requires turn { HasTurn (left self.old) }
         ensures goes_on { GoesOn (seen self.old) (T.mark result) }
         ensures others { MadeByOthers (may_add self.old) (further (T.mark result).entries (seen self.old).entries) }
+        ensures own { (origin : ℕ) → may_add self.old origin ≡ true → entries_of (T.mark result).entries origin (identity self.old).base ≡ entries_of (seen self.old).entries origin (identity self.old).base }
         ensures taken { taken self.new ≡ true }
         ensures seen { seen self.new ≡ T.mark result }
+        ensures since { (identity self.new).base ≤ length (seen self.new).entries }
         ensures identity { identity self.new ≡ identity self.old }
         ensures may_add { may_add self.new ≡ may_add self.old }
         ensures left { left self.new ≡ left self.old };
@@ -41,6 +43,7 @@ pub trait Turns<T: Kept> {
         requires own { MadeBy (may_add self.old) (further (T.mark value).entries (seen self.old).entries) }
         ensures idle { taken self.new ≡ false }
         ensures seen { seen self.new ≡ T.mark value }
+        ensures since { (identity self.new).base ≤ length (seen self.new).entries }
         ensures identity { identity self.new ≡ identity self.old }
         ensures may_add { may_add self.new ≡ may_add self.old }
         ensures left { left self.new ≡ one_less (left self.old) };

@@ -63,10 +63,7 @@ impl<T: Kept> Turnstile<T> {
     ///
     /// # Errors
     /// There was no memory: the value comes back.
-    pub fn new(
-        alloc: Global,
-        value: T,
-    ) -> Result<(Turnstile<T>, Pass<T>), (T, AllocError)>
+    pub fn new(alloc: Global, value: T) -> Result<(Turnstile<T>, Pass<T>), (T, AllocError)>
         ensures ok { IfOk result (λ made. (made.0.start ≡ T.mark value) × (made.1.table ≡ made.0.table) × (made.1.view ≡ first_view (T.mark value))) }
         ensures err { IfErr result (λ refused. refused.0 ≡ value) }
     {

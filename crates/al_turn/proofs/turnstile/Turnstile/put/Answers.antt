@@ -1,4 +1,4 @@
-use Rattle.std.proofs.Common.{◌≡◌, ◌<◌, ◌≤◌, ◌^◌, length, ap, refl, rules, arith}
+use Rattle.std.proofs.Common.{◌≤◌, length, refl, rules, arith}
 use Rattle.al_turn.proofs.Grows.{is_longer}
 use Rattle.al_turn.proofs.Seats.{counts_as, ends_as, ends_seat, given_back, holding}
 use Rattle.al_turn.proofs.turnstile.Turnstile.put.Goals as goal
@@ -10,12 +10,11 @@ fetch_add-requires g c =
     let longer : length before.0.seen.entries ≤ length mark.entries = is_longer _ _ c.requires.goes_on.begins in
     let started = c.requires.before in
     let counted = c.entries.ensures in
-    let small = c.entries.type_inv in
-    (
+    let small = c.entries.type_inv in (
       search rules,
       omega arith,
       counts_as g.T.Kept.mark _ _ _ c.exchange.new.seat.me before.0 c.args.value _ (holding before c.exchange.new.seat.me c.args.value c.requires.out.2 c.exchange.ensures.3) c.requires.out.0 c.requires.out.1
-        c.requires.goes_on c.requires.own (omega arith) (omega arith),
+          c.requires.goes_on c.requires.own (omega arith) (omega arith),
     )
 
 pub fetch_add-requires-2 : goal.fetch_add-requires-2

@@ -19,18 +19,20 @@ unwrap-value-requires g c =
 
 pub returns-clause-seat : goal.returns-clause-seat
 returns-clause-seat g c =
-    let served = c.wait.ensures.served in
-    (served.0, takes_seat g.T.Kept.mark c.args.seat.now.me.0 served.0 c.load-length.result c.wait.new.seat.me c.load-length.new.seat.me c.exchange.new.seat.me c.exchange.result c.unwrap-value.result
-        served.1 c.load-length.ensures.2 c.exchange.ensures.2 c.unwrap-value.ensures c.exchange.ensures.3)
+    let served = c.wait.ensures.served in (
+      served.0,
+      takes_seat g.T.Kept.mark c.args.seat.now.me.0 served.0 c.load-length.result c.wait.new.seat.me c.load-length.new.seat.me c.exchange.new.seat.me c.exchange.result c.unwrap-value.result
+          served.1 c.load-length.ensures.2 c.exchange.ensures.2 c.unwrap-value.ensures c.exchange.ensures.3,
+    )
 
 pub returns-clause-length : goal.returns-clause-length
 returns-clause-length g c =
     let served = c.wait.ensures.served in
     takes_length g.T.Kept.mark c.args.seat.now.me.0 served.0 c.load-length.result c.wait.new.seat.me c.load-length.new.seat.me c.exchange.new.seat.me c.exchange.result c.unwrap-value.result
-        served.1 c.load-length.ensures.2 c.exchange.ensures.2 c.unwrap-value.ensures c.exchange.ensures.3
+    served.1 c.load-length.ensures.2 c.exchange.ensures.2 c.unwrap-value.ensures c.exchange.ensures.3
 
 pub returns-clause-found : goal.returns-clause-found
 returns-clause-found g c =
     let served = c.wait.ensures.served in
     takes_found g.T.Kept.mark c.args.seat.now.me.0 served.0 c.load-length.result c.wait.new.seat.me c.load-length.new.seat.me c.exchange.new.seat.me c.exchange.result c.unwrap-value.result
-        served.1 c.load-length.ensures.2 c.exchange.ensures.2 c.unwrap-value.ensures c.exchange.ensures.3
+    served.1 c.load-length.ensures.2 c.exchange.ensures.2 c.unwrap-value.ensures c.exchange.ensures.3

@@ -1,5 +1,5 @@
 -- The seat waits with the ticket that it drew.
-use Rattle.std.proofs.Common.{◌≡◌, [], ◌∷◌}
+use Rattle.std.proofs.Common.{◌≡◌, []}
 use Rattle.al_turn.specs.Views.{drew}
 use Rattle.al_turn.proofs.turnstile.Turnstile.wait.Given as goal
 
