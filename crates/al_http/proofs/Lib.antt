@@ -1,6 +1,8 @@
 mod EscapeLemmas
+mod FindLemmas
 pub mod FrontLemmas
 mod HeadLemmas
+mod LineLemmas
 mod MethodLemmas
 mod RequestLemmas
 mod RowLemmas

@@ -1,9 +1,9 @@
--- Where a block ends, one byte after the other.
-use Rattle.std.proofs.Common.{◌≡◌, ◌≢◌, ℕ, ◌⊎◌, Bool, true, false, ◌||◌, List, [], ◌∷◌, ◌++◌, refl, sym, ◌∙◌, ap, inl, inr, append_assoc, arith}
+-- Where a block ends, line after line.
+use Rattle.std.proofs.Common.{◌≡◌, ◌≢◌, ℕ, ◌⊎◌, Bool, true, false, ◌||◌, ◌==◌, List, [], ◌∷◌, ◌++◌, refl, sym, ◌∙◌, ap, inl, inr, append_assoc, arith}
 use Rattle.std.proofs.lemmas.Bool.Decides.{nat_tests}
 use Rattle.std.proofs.lemmas.List.{same_from_push, append-nil}
 use Rattle.std.proofs.lemmas.List.Folds.{list_any-append}
-use Rattle.std.specs.List.{list_any}
+use Rattle.std.specs.List.{list_any, AllByRecursion}
 use Rattle.al_http.specs.declared.scan.Seen.{Seen}
 use Rattle.al_http.specs.declared.scan.Seen.TheVariants.{Nothing, Text, LineFeed, Return}
 use Rattle.al_http.specs.Blocks.{line_feed, carriage_return, is_line_byte, HasLineByte, EndsInEmptyLine, IsBlock, HoldsNoBlock}
@@ -185,6 +185,15 @@ return_on_line_feed seen xs e before = after_return xs (rw e at before)
 pub return_on_text : (seen : Seen) (xs : List ℕ) → (seen ≡ Text) ⊎ (seen ≡ Return) → IsAfter seen xs → IsAfter Text (xs ++ carriage_return ∷ [])
 return_on_text seen xs (inl e) before = after_text_return xs (rw e at before)
 return_on_text seen xs (inr e) before = after_two_returns xs (rw e at before)
+
+-- behind text of a line, bytes without LF are text of it
+pub text_stays : (xs bytes : List ℕ) → IsAfter Text xs → AllByRecursion (λ b. b ≢ line_feed) bytes → IsAfter Text (xs ++ bytes)
+text_stays xs [] before none = rw append-nil before
+text_stays xs (b ∷ bytes) before none = rw (sym (append_assoc xs (b ∷ []) bytes)) (text_stays (xs ++ b ∷ []) bytes (one (b == carriage_return) refl) none.1)
+  where
+    one : (is : Bool) → (b == carriage_return) ≡ is → IsAfter Text (xs ++ b ∷ [])
+    one true is = let same : b ≡ carriage_return = grind (arith, nat_tests) in rw same (after_text_return xs before)
+    one false is = let other : b ≢ carriage_return = grind (arith, nat_tests) in after_text Text xs b none.0 other (line_byte b none.0 other) before
 
 pub ruleset on_line_feed = (feed_on_nothing, feed_on_text, feed_on_end)
 

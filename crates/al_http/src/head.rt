@@ -9,12 +9,8 @@ ghost use Rattle.al_http.specs.Blocks.{IsBlock};
 ghost use Rattle.al_http.specs.Requests.{values_of, digits_number, Frames, IsHead};
 ghost use Rattle.al_http.specs.Heads.{ReadsHead, RefusesBlock};
 
-use crate::scan::count_lines;
 use httparse::Status;
 use httparse::spans::{HeaderSpan, RequestSpans, parse_request};
-
-/// The most lines of a head: the request line and those of 64 fields.
-const MAX_LINES: usize = 65;
 
 /// The most bytes of a body.
 pub(crate) const MAX_BODY: usize = 1_048_576;
@@ -88,7 +84,8 @@ fn body_length(block: &[u8], headers: &[HeaderSpan]) -> Option<usize>
     }
 }
 
-/// Where the parts of the head are that the block is, if it is one.
+/// Where the parts of the head are that the block is, if it is one. With room for 64 fields it has 65 lines at most.
+#[tactic(auto, using(crate::proofs::LineLemmas::head_here))]
 fn parse_head(block: &[u8], spans: &mut [HeaderSpan]) -> Option<RequestSpans>
     requires is_block { IsBlock block.now }
     requires short { length block.now ≤ 16384 }
@@ -97,9 +94,6 @@ fn parse_head(block: &[u8], spans: &mut [HeaderSpan]) -> Option<RequestSpans>
     ensures found { IfSome result (λ head. (tree : RequestHead) × IsHead block.now tree × IsRequestAt block.now spans.new head tree) }
     ensures every { (tree : RequestHead) → IsHead block.now tree → IsSomeAnd result (λ head. IsRequestAt block.now spans.new head tree) }
 {
-    if count_lines(block) > MAX_LINES {
-        return None;
-    }
     match parse_request(block, spans) {
         Ok(Status::Complete(head)) if head.len == block.len() => Some(head),
         _ => None,

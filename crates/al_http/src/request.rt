@@ -1,9 +1,10 @@
 ghost use Rattle.std.specs.Prelude.{◌≡◌, length, position, slice_get, All};
 ghost use Rattle.std.specs.Option.{option_copied};
-ghost use Rattle.httparse.specs.Spans.{IsWithin, IsHeaderWithin};
+ghost use Rattle.httparse.specs.Spans.{IsWithin, IsHeaderWithin, span_bytes};
 ghost use Rattle.al_http.specs.Requests.{is_question_mark, path_of, query_of, values_of};
 
 use crate::head::value_at;
+use crate::scan::first_at;
 use httparse::spans::{HeaderSpan, RequestSpans};
 
 /// A request as it lies in its framer: a head that is within the limits, and exactly its body.
@@ -13,9 +14,12 @@ pub struct HttpRequest<'a> {
     headers: &'a [HeaderSpan],
     head: RequestSpans,
     body: &'a [u8],
+    /// Where the first `?` of the target is.
+    mark: Option<usize>,
     ghost method_within: { IsWithin (length block.now) head.method },
     ghost path_within: { IsWithin (length block.now) head.path },
     ghost headers_within: { All (IsHeaderWithin (length block.now)) headers.now },
+    ghost marked: { mark ≡ position is_question_mark (span_bytes block.now head.path) },
 }
 
 impl<'a> HttpRequest<'a> {
@@ -38,6 +42,7 @@ impl<'a> HttpRequest<'a> {
             headers,
             head,
             body,
+            mark: first_at(b'?', head.path.of(block)),
         }
     }
 
@@ -59,7 +64,7 @@ impl<'a> HttpRequest<'a> {
         ensures { result.now ≡ path_of (message_of self.now).target }
     {
         let target = self.target();
-        match question_mark(target) {
+        match self.mark {
             Some(mark) => &target[..mark],
             None => target,
         }
@@ -70,7 +75,7 @@ impl<'a> HttpRequest<'a> {
         ensures { option_copied result ≡ query_of (message_of self.now).target }
     {
         let target = self.target();
-        match question_mark(target) {
+        match self.mark {
             Some(mark) => Some(&target[mark + 1..]),
             None => None,
         }
@@ -89,11 +94,4 @@ impl<'a> HttpRequest<'a> {
     {
         self.body
     }
-}
-
-/// Where the first `?` is.
-fn question_mark(target: &[u8]) -> Option<usize>
-    ensures { result ≡ position is_question_mark target.now }
-{
-    target.iter().position(|byte| *byte == b'?')
 }

@@ -1,12 +1,22 @@
-//! Looking for the end of a block, for its lines, and for empty lines, one byte after the other.
+//! Looking for a byte, for the end of a block, line after line, and for empty lines.
 
-ghost use Rattle.std.specs.Prelude.{◌≡◌, ◌+◌, ◌≤◌, ℕ, List, [], ◌∷◌, ◌++◌, length, take, false, IsTrue, ◌↔◌, MatchOption, ◌==◌, position, count_by};
-ghost use Rattle.al_http.specs.Blocks.{line_feed, carriage_return, is_line_byte, IsBlock, line_count, are_line_ends, AreEmptyLines};
+ghost use Rattle.std.specs.Prelude.{◌≡◌, ◌≢◌, ℕ, List, [], ◌∷◌, ◌++◌, false, MatchOption, ◌==◌, position, All};
+ghost use Rattle.al_http.specs.Blocks.{line_feed, carriage_return, IsBlock, are_line_ends};
 ghost use Rattle.al_http.specs.Scans.{IsAfter, Looks};
+
+use memchr::memchr;
 
 const LINE_FEED: u8 = b'\n';
 
 const CARRIAGE_RETURN: u8 = b'\r';
+
+/// Where the byte is first.
+#[tactic(auto, using(crate::proofs::FindLemmas::first_is_position))]
+pub(crate) fn first_at(byte: u8, bytes: &[u8]) -> Option<usize>
+    ensures { result ≡ position (λ b. b == byte) bytes.now }
+{
+    memchr(byte, bytes)
+}
 
 /// What was seen of a block that hasn't ended.
 #[derive(Clone, Copy, Debug, PartialEq, Eq)]
@@ -46,15 +56,31 @@ impl Seen {
         }
     }
 
-    /// What was seen with one more byte, or nothing where the block ends with it.
-    fn after(self, byte: u8) -> Option<Seen>
-        ensures { (front : List ℕ) → IsAfter self front → MatchOption result (IsBlock (front ++ byte ∷ [])) (λ seen. IsAfter seen (front ++ byte ∷ [])) }
+    /// What was seen with one more byte, which is no LF.
+    fn after(self, byte: u8) -> Seen
+        requires { byte ≢ line_feed }
+        ensures { (front : List ℕ) → IsAfter self front → IsAfter result (front ++ byte ∷ []) }
     {
-        match byte {
-            LINE_FEED => self.after_line_feed(),
-            CARRIAGE_RETURN => Some(self.after_return()),
-            _ => Some(Seen::Text),
+        if byte == CARRIAGE_RETURN {
+            self.after_return()
+        } else {
+            Seen::Text
         }
+    }
+
+    /// What was seen with more bytes, none of which is an LF. Behind text of a line nothing changes any more.
+    fn after_part(self, bytes: &[u8]) -> Seen
+        requires { All (λ b. b ≢ line_feed) bytes.now }
+        ensures { (front : List ℕ) → IsAfter self front → IsAfter result (front ++ bytes.now) }
+    {
+        let mut now = self;
+        for byte in bytes {
+            match now {
+                Seen::Text => return Seen::Text,
+                Seen::Nothing | Seen::LineFeed | Seen::Return => now = now.after(*byte),
+            }
+        }
+        now
     }
 }
 
@@ -72,39 +98,16 @@ pub(crate) fn look_on(seen: Seen, bytes: &[u8]) -> Look
     ensures { (front : List ℕ) → IsAfter seen front → Looks front bytes.now result }
 {
     let mut now = seen;
-    for (i, byte) in bytes.iter().enumerate() {
-        match now.after(*byte) {
-            None => return Look::Ends(i + 1),
+    let mut at = 0;
+    'lines: while let Some(len) = first_at(LINE_FEED, &bytes[at..]) {
+        let end = at + len;
+        match now.after_part(&bytes[at..end]).after_line_feed() {
+            None => return Look::Ends(end + 1),
             Some(next) => now = next,
         }
+        at = end + 1;
     }
-    Look::Goes(now)
-}
-
-/// Where the first text of a line is.
-fn text_start(block: &[u8]) -> Option<usize>
-    ensures { result ≡ position is_line_byte block.now }
-{
-    block
-        .iter()
-        .position(|byte| !(*byte == CARRIAGE_RETURN || *byte == LINE_FEED))
-}
-
-/// How many lines end in the bytes.
-fn count_ends(bytes: &[u8]) -> usize
-    ensures { result ≡ count_by (λ b. b == line_feed) bytes.now }
-{
-    bytes.iter().filter(|byte| **byte == LINE_FEED).count()
-}
-
-/// How many lines a block has.
-pub(crate) fn count_lines(block: &[u8]) -> usize
-    ensures { result ≡ line_count block.now }
-{
-    match text_start(block) {
-        Some(start) => count_ends(&block[start..]).saturating_sub(1),
-        None => 0,
-    }
+    Look::Goes(now.after_part(&bytes[at..]))
 }
 
 /// Whether the bytes are empty lines and nothing else.

@@ -1,17 +1,30 @@
-use Rattle.std.proofs.Common.{◌≡◌, ℕ, ◌+◌, ◌<◌, List, ◌∷◌, [], ◌++◌, length, take, get_or, sym, ◌∙◌, ap, append_assoc, arith}
-use Rattle.std.proofs.lemmas.List.{take_more}
+use Rattle.std.proofs.Common.{◌≡◌, ℕ, ◌+◌, ◌<◌, ◌≤◌, Option, Some, None, List, ◌∷◌, [], ◌++◌, length, take, sym, ◌∙◌, ap, append_assoc, arith}
+use Rattle.std.proofs.Math.Seq.{take-length}
+use Rattle.std.specs.List.{position}
+use Rattle.al_http.proofs.FindLemmas.{part_before, found_at, none_at_all, no_part}
+use Rattle.al_http.proofs.StreamLemmas.{take_to}
 use Rattle.al_http.proofs.scan.look_on.Goals as goal
 
--- the bytes so far, and one more
-one_more : (front bytes : List ℕ) (i : ℕ) → i < length bytes → (front ++ take i bytes) ++ get_or bytes i 0 ∷ [] ≡ front ++ take (i + 1) bytes
-one_more front bytes i within = append_assoc front _ _ ∙ ap (λ t. front ++ t) (sym (take_more bytes i 0 within))
-
-pub loop-i-preserved : goal.loop-i-preserved
-loop-i-preserved c = λ front seen.
-    rw (one_more front c.args.bytes.now c.loop-i.i c.loop-i-test.true) at (c.in-Some.ensures _ (c.loop-i.invariant front seen))
+pub after_part-requires : goal.after_part-requires
+after_part-requires c = part_before 10 c.args.bytes.now c.lines.at c.in-Some.len (sym c.in-Some.ensures)
 
 pub returns-in-None : goal.returns-in-None
-returns-in-None c = λ front seen. (
-  omega arith,
-  rw (one_more front c.args.bytes.now c.loop-i.i c.loop-i-test.true) at (c.in-None.ensures _ (c.loop-i.invariant front seen)),
-)
+returns-in-None c = λ front seen.
+    let found = found_at 10 c.args.bytes.now c.lines.at c.in-Some.len c.lines.invariant.within (sym c.in-Some.ensures) in
+    (omega (arith, found.0), rw (found.1 front) at (c.in-None.ensures _ (c.after_part.ensures _ (c.lines.invariant.seen front seen))))
+
+pub lines-preserved : goal.lines-preserved
+lines-preserved c =
+    let found = found_at 10 c.args.bytes.now c.lines.at c.in-Some.len c.lines.invariant.within (sym c.in-Some.ensures) in
+    record {
+      within = omega (arith, found.0);
+      seen = λ front seen. rw (found.1 front) at (c.in-Some-after_line_feed.ensures _ (c.after_part.ensures _ (c.lines.invariant.seen front seen)));
+    }
+
+pub after_part-requires-2 : goal.after_part-requires-2
+after_part-requires-2 c = none_at_all 10 _ (no_part _ _ c.first_at.ensures c.in_default.not-Some)
+
+pub returns : goal.returns
+returns c = λ front seen.
+    let whole = take_to c.args.bytes.now c.lines.at (length c.args.bytes.now) c.lines.invariant.within ∙ take-length c.args.bytes.now in
+    rw (append_assoc front (take c.lines.at c.args.bytes.now) _, whole) at (c.after_part-2.ensures _ (c.lines.invariant.seen front seen))
