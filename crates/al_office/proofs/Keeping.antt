@@ -4,7 +4,7 @@ use Rattle.al_report.specs.Alarms.{IsInOrder}
 use Rattle.al_report.specs.Decision.{decision_of, entry_time}
 use Rattle.al_report.specs.History.{replay, Fits}
 use Rattle.al_report.specs.Limits.{last_stamp, IsRequestWithin}
-use Rattle.al_report.specs.State.{State, start, alarms_after, step}
+use Rattle.al_report.specs.State.{State, start, step}
 use Rattle.al_report.specs.declared.decision.Decision.TheVariants.{Change}
 use Rattle.al_report.specs.declared.decision.Reply.{Reply}
 use Rattle.al_report.specs.declared.entry.Entry.{Entry}
@@ -32,9 +32,5 @@ fits h s origin request now event reply time k within is at last =
     subst (λ t. Fits t (of_time time)) k.tables (subst (λ t. Fits s (of_time t)) (sym at) f)
 
 -- one more entry, with its step, is kept
-pub kept_more : (h : List Entry) (e : Entry) (s new : State) → IsKept h s → Fits (replay h) e → new.alarms ≡ alarms_after s.alarms e.event → new.time ≡ e.time → IsKept (h ++ e ∷ []) new
-unfolding step
-kept_more h e s new k f alarms time =
-    let made : State → State = λ t. record { alarms = alarms_after t.alarms e.event; time = e.time } in
-    let stepped : new ≡ made s = λ i. let t : State = record { alarms = alarms i; time = time i } in t in
-    record { legal = legal_push h e k.legal f; tables = stepped ∙ ap made k.tables ∙ sym (replay-push h e) }
+pub kept_more : (h : List Entry) (e : Entry) (s new : State) → IsKept h s → Fits (replay h) e → new ≡ step s e → IsKept (h ++ e ∷ []) new
+kept_more h e s new k f stepped = record { legal = legal_push h e k.legal f; tables = stepped ∙ ap (λ t. step t e) k.tables ∙ sym (replay-push h e) }

@@ -1,4 +1,4 @@
-pub mod Keeping
-pub mod Places
-pub mod Preparing
-pub mod Verdicts
+mod Keeping
+mod Positions
+mod Preparing
+mod Verdicts

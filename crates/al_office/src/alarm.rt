@@ -1,5 +1,6 @@
-ghost use Rattle.std.specs.Prelude.{◌≡◌, Some, IfOk, IsTrue, is_some};
+ghost use Rattle.std.specs.Prelude.{◌≡◌, Some, IfOk, is_some};
 ghost use Rattle.al_report.specs.Alarms.{raised, reported, resource_cmp};
+ghost use Rattle.al_office.specs.Tables.{changed_by};
 
 use al_base::{Copied, Severity, Status, Text};
 use std::alloc::{AllocError, Global};
@@ -60,19 +61,17 @@ impl Alarm {
         }
     }
 
-    /// The alarm as a report that says something new leaves it.
-    pub fn reported(&self, alloc: Global, status: Status, text: &Text) -> Result<Alarm, AllocError>
-        requires { IsTrue (is_some (reported (Some self.now) self.now.resource status text.now)) }
-        ensures { IfOk result (λ alarm. reported (Some self.now) self.now.resource status text.now ≡ Some alarm) }
+    /// Changes the alarm by a report that says something new. A clear leaves the severity.
+    pub fn change(&mut self, status: Status, text: Text)
+        ensures { self.new ≡ changed_by status text self.old }
     {
-        Ok(Alarm {
-            resource: self.resource.copy(alloc)?,
-            cleared: status == Status::Cleared,
-            severity: match status {
-                Status::Cleared => self.severity,
-                Status::Active(severity) => severity,
-            },
-            text: text.copy(alloc)?,
-        })
+        match status {
+            Status::Active(severity) => {
+                self.cleared = false;
+                self.severity = severity;
+            }
+            Status::Cleared => self.cleared = true,
+        }
+        self.text = text;
     }
 }

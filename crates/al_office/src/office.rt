@@ -27,6 +27,7 @@ impl Office {
     ghost use Rattle.al_report.specs.History.{replay, Fits, IsLegal};
     ghost use Rattle.al_report.specs.Limits.{IsRequestWithin};
     ghost use Rattle.al_office.specs.Office.{IsAnswer};
+    ghost use Rattle.al_office.specs.Tables.{IsPositionFor};
 
     /// An office whose history is empty.
     pub fn start(alloc: Global) -> Result<Office, AllocError>
@@ -45,27 +46,30 @@ impl Office {
         ensures answer { IsAnswer self.old.entries origin request now result self.new.entries }
         ensures legal { IsLegal self.new.entries }
     {
-        match self.tables.decide(request, now) {
+        let (decision, position) = self.tables.decide(request, now);
+        match decision {
             Decision::Refuse(refusal) => Err(refusal),
             Decision::Same(reply) => Ok(reply),
             Decision::Change(event, reply) => {
                 let time = self.tables.next_time(now);
-                self.add(Entry {
+                let entry = Entry {
                     time,
                     origin,
                     event,
-                })?;
+                };
+                self.add(entry, position)?;
                 Ok(reply)
             }
         }
     }
 
     /// Adds an entry: first all memory is taken, then the entry and its change are there.
-    fn add(&mut self, entry: Entry) -> Result<(), AllocError>
-        requires { Fits (replay self.old.entries) entry }
+    fn add(&mut self, entry: Entry, position: Result<usize, usize>) -> Result<(), AllocError>
+        requires fits { Fits (replay self.old.entries) entry }
+        requires position { IsPositionFor (replay self.old.entries).alarms entry.event position }
         ensures { self.new.entries ≡ (if is_ok result then self.old.entries ++ entry ∷ [] else self.old.entries) }
     {
-        let prepared = self.tables.prepare(self.alloc, &entry.event)?;
+        let prepared = self.tables.prepare(self.alloc, &entry.event, position)?;
         let time = entry.time;
         self.entries.push(entry)?;
         self.tables.apply(prepared, time);
@@ -86,7 +90,7 @@ impl Office {
         self.entries.is_empty()
     }
 
-    /// The entry at this place, counted from 0.
+    /// The entry with this number, counted from 0.
     pub fn entry(&self, n: usize) -> Option<&Entry>
         ensures { option_copied result ≡ slice_get self.now.entries n }
     {

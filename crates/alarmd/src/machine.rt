@@ -14,6 +14,7 @@ use al_base::{List, Stamp};
 use al_http::{Content, HttpRequest, Response};
 use al_office::Office;
 use al_report::{Kept, Refusal};
+use itoa::Buffer as Digits;
 use std::alloc::{AllocError, Global};
 
 /// The number of the refusal `no such path`.
@@ -31,6 +32,9 @@ const HEAD: &[u8] = b"HEAD";
 const COUNT_PATH: &[u8] = b"/restconf/data/ietf-alarms:alarms/alarm-list/number-of-alarms";
 
 const REPORT_PATH: &[u8] = b"/restconf/operations/alarmd:report";
+
+/// Room for the text of a count: 33 bytes, and 20 digits at most.
+const COUNT_ROOM: usize = 53;
 
 /// Answers the count of the alarms and takes reports.
 #[derive(Drop)]
@@ -101,13 +105,17 @@ fn count(alloc: Global, office: &Office) -> Result<Response, AllocError>
     ensures { IfOk result (λ response. response ≡ count_response (length office.now.entries) (length (replay office.now.entries).alarms)) }
 {
     let number = office.number_of_alarms();
-    let text = format!(in alloc; "{{\"ietf-alarms:number-of-alarms\":{number}}}")?;
+    let mut digits = Digits::new();
+    let mut text = Vec::with_capacity(alloc, COUNT_ROOM)?;
+    text.extend_from_slice(b"{\"ietf-alarms:number-of-alarms\":")?;
+    text.extend_from_slice(digits.format(number).as_bytes())?;
+    text.push(b'}')?;
     Ok(Response {
         status: 200,
         place: Some(office.entries()),
         allow: 0,
         location: None,
-        content: Content::Tree(List::of(text.into_bytes())),
+        content: Content::Tree(List::of(text)),
         bare: false,
     })
 }

@@ -1,4 +1,4 @@
--- What stands at the place that a search found.
+-- What stands at the position that a search found.
 use Rattle.std.proofs.Common.{◌≡◌, ℕ, ◌<◌, ◌≤◌, zero, suc, cond, Bool, true, false, Some, None, Result, Ok, Err, List, [], ◌∷◌, ◌++◌, length, refl, ap, sym, ◌∙◌, subst, arith, ltb, lit≤}
 use Rattle.std.specs.List.{AllByRecursion, AllWithin, HoldsAt, slice_get, slice_set, slice_index_or, insert}
 use Rattle.std.specs.List.Sorted.{IsStrictlySortedBy, IsBinarySearchResult, IsSearchInRange, IsNonDecreasingBy}
@@ -12,7 +12,7 @@ use Rattle.std.proofs.lemmas.Map.Keys.{Less-from_sorted}
 use Rattle.std.proofs.lemmas.Map.Lookups.{exact_bytes}
 use Rattle.al_base.specs.declared.text.Text.{Text}
 use Rattle.al_report.specs.Alarms.{AlarmState, resource_cmp, alarm_of, below, above, IsInOrder}
-use Rattle.al_office.specs.Tables.{IsPlaceOf}
+use Rattle.al_office.specs.Tables.{IsPositionOf}
 
 -- the alarms below r, then a, then those above r
 abbrev around : Text → AlarmState → List AlarmState → List AlarmState
@@ -106,12 +106,12 @@ rises r xs order i j d le within = by (ltb i j) refl
         rises_to r (slice_index_or xs i d) (slice_index_or xs j d) (Less-from_sorted _ xs i j d order lt within)
     by false is = let same : i ≡ j = grind (arith, nat_tests) in subst (λ k. ordering_index (resource_cmp (slice_index_or xs i d).resource r) ≤ ordering_index (resource_cmp (slice_index_or xs k d).resource r)) same (omega arith)
 
--- What a binary search by resource answers is the place of the resource.
-pub place_is : (r : Text) (xs : List AlarmState) (result : Result ℕ ℕ) → IsInOrder xs → IsSearchInRange result (length xs) → IsBinarySearchResult (λ y. resource_cmp y.resource r) xs result → IsPlaceOf r xs result
-place_is r xs (Ok i) order within here =
+-- What a binary search by resource answers is the position of the resource.
+pub position_is : (r : Text) (xs : List AlarmState) (result : Result ℕ ℕ) → IsInOrder xs → IsSearchInRange result (length xs) → IsBinarySearchResult (λ y. resource_cmp y.resource r) xs result → IsPositionOf r xs result
+position_is r xs (Ok i) order within here =
     let k = known r xs i order within here in
     record { within = within; found = k.0; put_there = λ a is. subst (λ q. around q a xs ≡ slice_set xs i a) (sym is) (k.1 a) }
-place_is r xs (Err i) order within parted =
+position_is r xs (Err i) order within parted =
     let p = parted (rises r xs order) in
     let k = absent r xs i within p.0 p.1 in
     record { within = within; none = k.0; put_there = λ a is. subst (λ q. around q a xs ≡ insert xs i a) (sym is) (k.1 a) }
