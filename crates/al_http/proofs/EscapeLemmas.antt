@@ -1,8 +1,16 @@
 -- A name as it stands in a path, part by part.
-use Rattle.std.proofs.Common.{◌≡◌, ℕ, ◌+◌, ◌<◌, List, [], ◌∷◌, ◌++◌, length, take, drop, get_or, flat_map, sym, ap, ◌∙◌, refl, codes, Some}
+use Rattle.std.proofs.Common.{◌≡◌, ℕ, ◌+◌, ◌<◌, ◌≤◌, ◌/◌, ◌%◌, false, List, [], ◌∷◌, ◌++◌, length, take, drop, get_or, flat_map, sym, ap, ◌∙◌, refl, codes, Some, lit≤, arith}
 use Rattle.std.proofs.lemmas.Grind.{flat_map-append}
 use Rattle.std.proofs.lemmas.List.{append-nil, take_more, take-append-drop}
-use Rattle.al_http.specs.Responses.{escaped, escape_of, location_field, crlf}
+use Rattle.percent_encoding.specs.Percent.{percent_encode_byte}
+use Rattle.al_http.specs.Responses.{escaped, escape_of, is_unreserved, location_field, crlf}
+
+-- the escape of a byte is that of the crate `percent_encoding`
+pub escape_is : (byte : ℕ) → byte < 256 → is_unreserved byte ≡ false → (percent_encode_byte byte ≡ escape_of byte) × (length (percent_encode_byte byte) ≤ 3)
+unfolding percent_encode_byte
+escape_is byte small reserved =
+    let high : byte / 16 % 16 ≡ byte / 16 = omega arith in
+    (rw (high, reserved) refl, lit≤ tt)
 
 pub escaped_none : escaped [] ≡ []
 unfolding escaped

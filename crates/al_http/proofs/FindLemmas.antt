@@ -15,7 +15,7 @@ not_true : (b : Bool) → (b ≡ true → ⊥) → b ≡ false
 not_true true fails = absurd (fails refl)
 not_true false fails = refl
 
--- what a search over bytes answers is the place in the words of lists
+-- what a search over bytes answers is the position in the words of lists
 pub first_is_position : (byte : ℕ) (bytes : List ℕ) (result : Option ℕ) → IsFirstByte (is_byte byte) bytes result → result ≡ position (λ b. b == byte) bytes
 first_is_position byte bytes None none =
     let at : position_or_len (λ b. b == byte) bytes ≡ length bytes =
@@ -56,13 +56,13 @@ found_there byte bytes len found =
     let at = position-Some (λ b. b == byte) bytes len 0 found in
     (at.0, let passes = at.1 in grind (arith, nat_tests))
 
--- the part up to the byte that was found behind a place
+-- the part up to the byte that was found behind an index
 pub part_before : (byte : ℕ) (bytes : List ℕ) (at len : ℕ) → position (λ b. b == byte) (slice_range bytes at (length bytes)) ≡ Some len → All (λ b. b ≢ byte) (slice_range bytes at (at + len))
 part_before byte bytes at len found =
     let here = found_there byte (slice_range bytes at (length bytes)) len found in
     rw (front_part bytes at (length bytes) len (omega (arith, here.0))) (none_before byte (slice_range bytes at (length bytes)) len found)
 
--- the byte that was found behind a place lies in the bytes, and ends this front of them
+-- the byte that was found behind an index lies in the bytes, and ends this front of them
 pub found_at : (byte : ℕ) (bytes : List ℕ) (at len : ℕ) → at ≤ length bytes → position (λ b. b == byte) (slice_range bytes at (length bytes)) ≡ Some len
     → (at + len < length bytes) × ((front : List ℕ) → ((front ++ take at bytes) ++ slice_range bytes at (at + len)) ++ byte ∷ [] ≡ front ++ take (at + len + 1) bytes)
 found_at byte bytes at len low found =
@@ -76,7 +76,7 @@ found_at byte bytes at len low found =
         append_assoc (front ++ take at bytes) _ _ ∙ append_assoc front (take at bytes) _
         ∙ ap (λ t. front ++ t) (sym (append_assoc (take at bytes) _ _) ∙ ap (λ t. t ++ byte ∷ []) end ∙ sym more))
 
--- a search that didn't answer a place
-pub no_part : (found place : Option ℕ) → found ≡ place → ((k : ℕ) → found ≡ Some k → ⊥) → place ≡ None
-no_part None place same other = sym same
-no_part (Some k) place same other = absurd (other k refl)
+-- a search that found nothing
+pub no_part : (found position : Option ℕ) → found ≡ position → ((k : ℕ) → found ≡ Some k → ⊥) → position ≡ None
+no_part None position same other = sym same
+no_part (Some k) position same other = absurd (other k refl)

@@ -5,24 +5,12 @@ use Rattle.std.proofs.Math.Seq.{take-append-add, take-append_seam, take-length}
 use Rattle.std.specs.Io.KnownBytes.{Appends, Keeps}
 use Rattle.al_base.specs.Outside.{Rose}
 use Rattle.al_http.specs.Fronts.{AppendsFront, Gathers}
-
--- two texts, one after the other
-pub appends_more : (a b c : Option (List ℕ)) (xs ys : List ℕ) → Appends a b xs → Appends b c ys → Appends a c (xs ++ ys)
-appends_more None b c xs ys first second = tt
-appends_more (Some old) None c xs ys first second = absurd first
-appends_more (Some old) (Some mid) None xs ys first second = absurd second
-appends_more (Some old) (Some mid) (Some new) xs ys first second =
-    second ∙ ap (λ (zs : List ℕ). zs ++ ys) first ∙ append_assoc old xs ys
+use Rattle.al_http.proofs.FrontLaws.{appends_more, front_more}
 
 pub appends_none : (a b : Option (List ℕ)) → Keeps a b → Appends a b []
 appends_none None b same = tt
 appends_none (Some old) None same = absurd same
 appends_none (Some old) (Some new) same = same ∙ sym (append-nil old)
-
--- a whole text, and a front of the next
-pub front_more : (a b c : Option (List ℕ)) (xs ys : List ℕ) → Appends a b xs → AppendsFront b c ys → AppendsFront a c (xs ++ ys)
-front_more a b c xs ys first (count, second) =
-    (length xs + count, rw (take-append-add xs ys count) (appends_more a b c xs (take count ys) first second))
 
 pub front_none : (a b : Option (List ℕ)) (xs : List ℕ) → Keeps a b → AppendsFront a b xs
 front_none a b xs same = (0, appends_none a b same)

@@ -1,9 +1,11 @@
 mod EscapeLemmas
 mod FindLemmas
-pub mod FrontLemmas
+pub mod FrontLaws
+mod FrontLemmas
 mod HeadLemmas
 mod LineLemmas
 mod MethodLemmas
+mod PhraseLemmas
 mod RequestLemmas
 mod RowLemmas
 mod ScanLemmas

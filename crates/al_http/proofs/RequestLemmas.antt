@@ -1,16 +1,19 @@
 -- The request whose head and body stand at the front.
-use Rattle.std.proofs.Common.{◌≡◌, ℕ, ◌+◌, ◌≤◌, ◌<◌, List, ◌++◌, length, take, drop, Bool, true, false, if◌then◌else◌, Option, None, Result, Ok, Err, refl, sym, ◌∙◌, ap, inl, inr, append_assoc, arith}
+use Rattle.std.proofs.Common.{◌≡◌, ℕ, ◌+◌, ◌≤◌, ◌<◌, ◌==◌, ◌&&◌, cond, List, [], ◌∷◌, ◌++◌, length, take, drop, Bool, true, false, if◌then◌else◌, Option, None, Result, Ok, Err, refl, sym, ◌∙◌, ap, inl, inr, append_assoc, arith}
+use Rattle.std.proofs.lemmas.Bool.Decides.{nat_tests}
 use Rattle.std.proofs.lemmas.List.{take-append-drop, length-take, length-take-le, length-drop, drop-drop}
 use Rattle.httparse.specs.declared.spans.HeaderSpan.{HeaderSpan}
 use Rattle.httparse.specs.declared.spans.RequestSpans.{RequestSpans}
 use Rattle.al_http.specs.declared.framer.Stop.{Stop}
 use Rattle.al_http.specs.declared.framer.Stop.TheVariants.{Cut}
-use Rattle.al_http.specs.Blocks.{IsBlock, HoldsNoBlock, are_line_ends}
-use Rattle.al_http.specs.Requests.{FirstRequest, HasEnded, IsBad, IsCut, head_limit}
+use Rattle.httparse.specs.Grammar.{LineEnd, crlf, lf, print_blank}
+use Rattle.al_http.specs.Blocks.{line_feed, carriage_return, IsBlock, HoldsNoBlock, AreEmptyLines}
+use Rattle.al_http.specs.Scans.{are_line_ends}
+use Rattle.al_http.specs.Requests.{FirstRequest, HasEnded, IsRejected, IsCut, head_limit}
 use Rattle.al_http.specs.Moves.{IsAll}
-use Rattle.al_http.specs.Desks.{Finds}
+use Rattle.al_http.specs.InputBuffers.{Finds}
 use Rattle.al_http.specs.Shown.{message_at}
-use Rattle.al_http.specs.Heads.{ReadsHead, RefusesBlock}
+use Rattle.al_http.specs.Heads.{ReadsHead, RejectsBlock}
 use Rattle.al_http.proofs.StreamLemmas.{front_kept, all_has}
 
 -- bytes are a front of n, then m more, and the rest
@@ -38,8 +41,8 @@ first_request held more rest len size spans head reads within kept full =
     }
 
 -- the block at the front, which is no head that frames a body, is refused
-pub bad_block : (held more : List ℕ) (len : ℕ) → IsBlock (take len held) → RefusesBlock (take len held) → IsBad (held ++ more)
-bad_block held more len is_block refuses = inr (record {
+pub rejected_block : (held more : List ℕ) (len : ℕ) → IsBlock (take len held) → RejectsBlock (take len held) → IsRejected (held ++ more)
+rejected_block held more len is_block refuses = inr (record {
   text = take len held;
   rest = drop len held ++ more;
   parts = ap (λ t. t ++ more) (sym (take-append-drop len held)) ∙ append_assoc (take len held) (drop len held) more;
@@ -64,11 +67,37 @@ cut_body held more len size spans head reads within kept short =
       lacks = omega (arith, length-drop len more);
     })
 
+-- bytes that pass as ends of lines are such ends, behind a CR or not
+abbrev AreEnds : List ℕ → Type 0
+AreEnds bytes = (are_line_ends false bytes ≡ true → AreEmptyLines bytes) × (are_line_ends true bytes ≡ true → AreEmptyLines (carriage_return ∷ bytes))
+
+empty_lines : (bytes : List ℕ) → AreEnds bytes
+empty_lines [] = (λ _. ([], refl), λ ends. absurd (cc (ends)))
+empty_lines (b ∷ bytes) = let more = empty_lines bytes in (outside (b == line_feed) (b == carriage_return) refl refl more, behind (b == line_feed) refl more)
+  where
+    outside : (feed return : Bool) → (b == line_feed) ≡ feed → (b == carriage_return) ≡ return → AreEnds bytes → cond feed (are_line_ends false bytes) (return && true && are_line_ends true bytes) ≡ true → AreEmptyLines (b ∷ bytes)
+    outside true return f r more ends = let rest = more.0 ends in let is : b ≡ line_feed = grind (arith, nat_tests) in (lf ∷ rest.0, rw is (ap (λ t. line_feed ∷ t) rest.1))
+    outside false true f r more ends = let is : b ≡ carriage_return = grind (arith, nat_tests) in rw is (more.1 ends)
+    outside false false f r more ends = absurd (cc (ends))
+    behind : (feed : Bool) → (b == line_feed) ≡ feed → AreEnds bytes → cond feed (are_line_ends false bytes) ((b == carriage_return) && false && are_line_ends false bytes) ≡ true → AreEmptyLines (carriage_return ∷ b ∷ bytes)
+    behind true f more ends = let rest = more.0 ends in let is : b ≡ line_feed = grind (arith, nat_tests) in (crlf ∷ rest.0, rw is (ap (λ t. carriage_return ∷ line_feed ∷ t) rest.1))
+    behind false f more ends = absurd (no_end (b == carriage_return) ends)
+      where
+        no_end : (return : Bool) → (return && false && are_line_ends false bytes) ≡ true → ⊥
+        no_end true e = cc (e)
+        no_end false e = cc (e)
+
+-- ends of lines pass
+line_ends : (ends : List LineEnd) → are_line_ends false (print_blank ends) ≡ true
+line_ends [] = refl
+line_ends (crlf ∷ ends) = line_ends ends
+line_ends (lf ∷ ends) = line_ends ends
+
 -- a stream of which all is held, without a block, ends as these bytes do
 pub ends_so : (held : List ℕ) (stream : Option (List ℕ)) (result : Result (Option ℕ) Stop) → result ≡ (if are_line_ends false held then Ok None else Err Cut)
     → length held < head_limit → HoldsNoBlock held → IsAll held stream → Finds held stream result
 ends_so held stream result answer short no_block all = rw answer (by_lines (are_line_ends false held) refl)
   where
     by_lines : (blank : Bool) → are_line_ends false held ≡ blank → Finds held stream (if blank then Ok None else Err Cut)
-    by_lines true is = all_has HasEnded held stream all (record { short = short; empty_lines = is })
-    by_lines false is = all_has IsCut held stream all (inl (record { short = short; no_block = no_block; some_text = λ yes. cc (is, yes) }))
+    by_lines true is = all_has HasEnded held stream all (record { short = short; empty_lines = (empty_lines held).0 is })
+    by_lines false is = all_has IsCut held stream all (inl (record { short = short; no_block = no_block; some_text = λ lines. cc (is, ap (are_line_ends false) lines.1, line_ends lines.0) }))

@@ -5,13 +5,13 @@ use Rattle.std.specs.Prelude.{IfSome}
 use Rattle.std.proofs.Math.Seq.{take-append-add}
 use Rattle.std.proofs.lemmas.List.{append_cancel_left, append-nil, length-append, take_at, drop_at}
 use Rattle.std.proofs.lemmas.List.Folds.{list_any-append}
-use Rattle.httparse.specs.Grammar.{RequestHead}
+use Rattle.httparse.specs.Grammar.{LineEnd, crlf, lf, print_end, print_blank, RequestHead}
 use Rattle.httparse.proofs.GrammarLemmas.{request_unique}
 use Rattle.al_http.specs.declared.framer.Stop.TheVariants.{ReadFault}
 use Rattle.al_http.specs.declared.framer.Stop.TheVariants as stops
 use Rattle.al_http.specs.declared.request.HttpRequest.{HttpRequest}
-use Rattle.al_http.specs.Blocks.{line_feed, carriage_return, is_line_byte, HasLineByte, IsBlock, HoldsNoBlock, are_line_ends}
-use Rattle.al_http.specs.Requests.{RequestMessage, Frames, fields_of, IsHead, FirstRequest, HasEnded, IsTooLong, HasBadBlock, IsBad, LacksBody, IsCut}
+use Rattle.al_http.specs.Blocks.{line_feed, carriage_return, is_line_byte, HasLineByte, IsBlock, HoldsNoBlock, AreEmptyLines}
+use Rattle.al_http.specs.Requests.{RequestMessage, Frames, fields_of, IsHead, FirstRequest, HasEnded, IsTooLong, HasRejectedBlock, IsRejected, LacksBody, IsCut}
 use Rattle.al_http.specs.Streams.{Ending, Ended, Limit, Cut, Rejected, Cuts, RestEnds, EndsAs, request_limit, IsStream, HasGiven, IsWhole}
 use Rattle.al_http.specs.Shown.{message_of}
 use Rattle.al_http.specs.Moves.{Moves}
@@ -51,20 +51,14 @@ first_unique bytes a b rest other first second =
     let left : rest ≡ other = sym (drop_at a.body rest (length a.body) refl) ∙ ap (drop (length a.body)) block.1 ∙ drop_at b.body other (length a.body) (sym size) in
     (first.says ∙ rw (head, body) (sym second.says), left)
 
--- a byte of an empty line is no text, and the bytes behind it are empty lines too
-blank_step : (feed return first a b : Bool) → cond feed a ((return && first) && b) ≡ true → (not (return || feed) ≡ false) × ((a ≡ true) ⊎ (b ≡ true))
-blank_step true true first a b e = (refl, inl e)
-blank_step true false first a b e = (refl, inl e)
-blank_step false true true a b e = (refl, inr e)
-blank_step false true false a b e = cc
-blank_step false false first a b e = cc
-
 -- empty lines have no text
-blank_none : (after : Bool) (bytes : List ℕ) → are_line_ends after bytes ≡ true → list_any is_line_byte bytes ≡ false
-blank_none after [] blank = refl
-blank_none after (b ∷ bytes) blank =
-    let step = blank_step (b == line_feed) (b == carriage_return) (not after) (are_line_ends false bytes) (are_line_ends (not after) bytes) blank in
-    elim step.1 [ inl e ↦ (rw step.0 (blank_none false bytes e)) | inr e ↦ (rw step.0 (blank_none (not after) bytes e)) ]
+blank_none : (ends : List LineEnd) → list_any is_line_byte (print_blank ends) ≡ false
+blank_none [] = refl
+blank_none (end ∷ ends) = list_any-append is_line_byte (print_end end) (print_blank ends) ∙ rw (none end, blank_none ends) refl
+  where
+    none : (end : LineEnd) → list_any is_line_byte (print_end end) ≡ false
+    none crlf = refl
+    none lf = refl
 
 -- a block has text of a line
 block_line : (text rest : List ℕ) → IsBlock text → HasLineByte (text ++ rest)
@@ -72,8 +66,9 @@ block_line text rest block =
     let e = block.ends in
     rw (e.parts, list_any-append is_line_byte (e.front ++ e.end) rest, list_any-append is_line_byte e.front e.end, e.some_line) refl
 
-blank_holds_none : (bytes text rest : List ℕ) → are_line_ends false bytes ≡ true → bytes ≡ text ++ rest → IsBlock text → ⊥
-blank_holds_none bytes text rest blank parts block = let some : HasLineByte bytes = rw parts (block_line text rest block) in cc (blank_none false bytes blank, some)
+blank_holds_none : (bytes text rest : List ℕ) → AreEmptyLines bytes → bytes ≡ text ++ rest → IsBlock text → ⊥
+blank_holds_none bytes text rest (ends, printed) parts block =
+    let some : HasLineByte bytes = rw parts (block_line text rest block) in cc (ap (list_any is_line_byte) printed, blank_none ends, some)
 
 none_holds_none : (bytes text rest : List ℕ) → HoldsNoBlock bytes → bytes ≡ text ++ rest → IsBlock text → ⊥
 none_holds_none bytes text rest none parts block = none.none text rest parts block.ends
@@ -95,8 +90,8 @@ lacks_none bytes request rest first lacks =
     omega (arith, lacks.lacks, ap length block.1, length-append request.body rest)
 
 -- a block that is a head which frames a body isn't refused
-bad_none : (bytes text rest : List ℕ) (head : RequestHead) (size : ℕ) → bytes ≡ text ++ rest → IsHead text head → Frames (fields_of head) size → HasBadBlock bytes → ⊥
-bad_none bytes text rest head size parts is_head frames bad =
+rejected_none : (bytes text rest : List ℕ) (head : RequestHead) (size : ℕ) → bytes ≡ text ++ rest → IsHead text head → Frames (fields_of head) size → HasRejectedBlock bytes → ⊥
+rejected_none bytes text rest head size parts is_head frames bad =
     let block = block_unique text bad.text rest bad.rest is_head.is_block bad.is_block (sym parts ∙ bad.parts) in
     bad.refused head size (rw block.0 at is_head) frames
 
@@ -106,33 +101,33 @@ no_end bytes request rest Ended first ends = blank_holds_none bytes first.text _
 no_end bytes request rest Cut first (inl lacks) = none_holds_none bytes first.text _ lacks.no_block first.parts first.is_head.is_block
 no_end bytes request rest Cut first (inr lacks) = lacks_none bytes request rest first lacks
 no_end bytes request rest Rejected first (inl long) = long_holds_none bytes first.text _ long first.parts first.is_head.is_block first.is_head.short
-no_end bytes request rest Rejected first (inr bad) = bad_none bytes first.text _ first.head _ first.parts first.is_head first.frames bad
+no_end bytes request rest Rejected first (inr bad) = rejected_none bytes first.text _ first.head _ first.parts first.is_head first.frames bad
 
 ended_or_cut : (bytes : List ℕ) → HasEnded bytes → IsCut bytes → ⊥
 ended_or_cut bytes ended (inl lacks) = lacks.some_text ended.empty_lines
 ended_or_cut bytes ended (inr lacks) = blank_holds_none bytes lacks.text _ ended.empty_lines lacks.parts lacks.is_head.is_block
 
-ended_or_bad : (bytes : List ℕ) → HasEnded bytes → IsBad bytes → ⊥
-ended_or_bad bytes ended (inl long) = omega (arith, ended.short, long.long)
-ended_or_bad bytes ended (inr bad) = blank_holds_none bytes bad.text _ ended.empty_lines bad.parts bad.is_block
+ended_or_rejected : (bytes : List ℕ) → HasEnded bytes → IsRejected bytes → ⊥
+ended_or_rejected bytes ended (inl long) = omega (arith, ended.short, long.long)
+ended_or_rejected bytes ended (inr bad) = blank_holds_none bytes bad.text _ ended.empty_lines bad.parts bad.is_block
 
-cut_or_bad : (bytes : List ℕ) → IsCut bytes → IsBad bytes → ⊥
-cut_or_bad bytes (inl lacks) (inl long) = omega (arith, lacks.short, long.long)
-cut_or_bad bytes (inl lacks) (inr bad) = none_holds_none bytes bad.text _ lacks.no_block bad.parts bad.is_block
-cut_or_bad bytes (inr lacks) (inl long) = long_holds_none bytes lacks.text _ long lacks.parts lacks.is_head.is_block lacks.is_head.short
-cut_or_bad bytes (inr lacks) (inr bad) = bad_none bytes lacks.text _ lacks.head _ lacks.parts lacks.is_head lacks.frames bad
+cut_or_rejected : (bytes : List ℕ) → IsCut bytes → IsRejected bytes → ⊥
+cut_or_rejected bytes (inl lacks) (inl long) = omega (arith, lacks.short, long.long)
+cut_or_rejected bytes (inl lacks) (inr bad) = none_holds_none bytes bad.text _ lacks.no_block bad.parts bad.is_block
+cut_or_rejected bytes (inr lacks) (inl long) = long_holds_none bytes lacks.text _ long lacks.parts lacks.is_head.is_block lacks.is_head.short
+cut_or_rejected bytes (inr lacks) (inr bad) = rejected_none bytes lacks.text _ lacks.head _ lacks.parts lacks.is_head lacks.frames bad
 
 pub one_end : (bytes : List ℕ) (a b : Ending) → RestEnds bytes a → RestEnds bytes b → a ≡ b
 one_end bytes Limit b first second = absurd first
 one_end bytes a Limit first second = absurd second
 one_end bytes Ended Ended first second = refl
 one_end bytes Ended Cut first second = absurd (ended_or_cut bytes first second)
-one_end bytes Ended Rejected first second = absurd (ended_or_bad bytes first second)
+one_end bytes Ended Rejected first second = absurd (ended_or_rejected bytes first second)
 one_end bytes Cut Ended first second = absurd (ended_or_cut bytes second first)
 one_end bytes Cut Cut first second = refl
-one_end bytes Cut Rejected first second = absurd (cut_or_bad bytes first second)
-one_end bytes Rejected Ended first second = absurd (ended_or_bad bytes second first)
-one_end bytes Rejected Cut first second = absurd (cut_or_bad bytes second first)
+one_end bytes Cut Rejected first second = absurd (cut_or_rejected bytes first second)
+one_end bytes Rejected Ended first second = absurd (ended_or_rejected bytes second first)
+one_end bytes Rejected Cut first second = absurd (cut_or_rejected bytes second first)
 one_end bytes Rejected Rejected first second = refl
 
 -- one list of requests is as far as the other, or its rest begins with one more
@@ -235,7 +230,7 @@ ends_cut start old new requests given few moves = whole start old requests Cut g
 
 pub ends_rejected : (start old new : Option (List ℕ)) (requests : List RequestMessage) → HasGiven start requests old → length requests < request_limit
     → Moves old new (Err stops.Bad) → IsWhole start requests Rejected
-ends_rejected start old new requests given few moves = whole start old requests Rejected given (λ rest is. (few, told IsBad old rest moves.1 is))
+ends_rejected start old new requests given few moves = whole start old requests Rejected given (λ rest is. (few, told IsRejected old rest moves.1 is))
 
 pub ends_limit : (start old : Option (List ℕ)) (requests : List RequestMessage) → HasGiven start requests old → length requests ≡ request_limit → IsWhole start requests Limit
 ends_limit start old requests given full = whole start old requests Limit given (λ rest is. full)

@@ -50,7 +50,7 @@ take_parts n k xs =
 pub drop_part : (xs : List ℕ) (start end n : ℕ) → slice_range xs (start + n) end ≡ drop n (slice_range xs start end)
 drop_part xs start end n = between_is xs (start + n) end ∙ sym (drop-drop n start (take end xs)) ∙ ap (drop n) (sym (between_is xs start end))
 
--- the same, of a part that begins at another name of that place
+-- the same, of a part whose beginning has another name
 pub drop_to : (xs : List ℕ) (start new end n : ℕ) → new ≡ start + n → slice_range xs new end ≡ drop n (slice_range xs start end)
 drop_to xs start new end n at = rw at (drop_part xs start end n)
 

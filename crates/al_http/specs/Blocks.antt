@@ -1,6 +1,7 @@
 -- Where the head of a request ends: at the first empty line after its request line (a rule of this server, within RFC 9112, sections 2.1 and 2.2).
-use Rattle.std.specs.Prelude.{◌≡◌, ℕ, ◌-◌, ◌⊎◌, Bool, false, not, ◌||◌, ◌&&◌, ◌==◌, if◌then◌else◌, IsTrue, List, [], ◌∷◌, ◌++◌, count_by, drop}
+use Rattle.std.specs.Prelude.{◌≡◌, ℕ, ◌-◌, ◌⊎◌, Bool, not, ◌||◌, ◌==◌, IsTrue, List, [], ◌∷◌, ◌++◌, count_by, drop}
 use Rattle.std.specs.List.{list_any, position_or_len}
+use Rattle.httparse.specs.Grammar.{LineEnd, print_blank}
 
 abbrev pub line_feed : ℕ
 line_feed = 10
@@ -45,12 +46,6 @@ from_first_line bytes = drop (position_or_len is_line_byte bytes) bytes
 abbrev pub line_count : List ℕ → ℕ
 line_count block = count_by (λ b. b == line_feed) (from_first_line block) - 1
 
--- The bytes are ends of lines alone, each LF or CR LF. After a CR the next byte has to be LF.
-abbrev pub are_line_ends : Bool → List ℕ → Bool
-are_line_ends after_return [] = not after_return
-are_line_ends after_return (b ∷ bytes) =
-    if b == line_feed then are_line_ends false bytes else (b == carriage_return && not after_return && are_line_ends (not after_return) bytes)
-
--- empty lines and nothing else
+-- empty lines and nothing else, each of them LF or CR LF
 abbrev pub AreEmptyLines : List ℕ → Type 0
-AreEmptyLines bytes = IsTrue (are_line_ends false bytes)
+AreEmptyLines bytes = (ends : List LineEnd) × (bytes ≡ print_blank ends)

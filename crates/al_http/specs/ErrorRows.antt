@@ -57,6 +57,16 @@ error_rows =
 abbrev pub IsErrorRow : ℕ → Type 0
 IsErrorRow number = (1 ≤ number) × (number ≤ 29)
 
+-- the rows that the code names, by their numbers
+abbrev pub bad_head : ℕ
+bad_head = 1
+
+abbrev pub no_such_path : ℕ
+no_such_path = 5
+
+abbrev pub bad_value : ℕ
+bad_value = 15
+
 -- the row of a number from 1 to 29
 abbrev pub error_row : ℕ → ErrorRow
 error_row number = slice_index_or error_rows (number - 1) (transport 400 [] [])

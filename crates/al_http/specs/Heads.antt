@@ -16,5 +16,5 @@ pub record ReadsHead (block : List ℕ) (spans : List HeaderSpan) (head : Reques
   pub frames : Frames (fields_of tree) size
 
 -- the block is no head that frames a body
-abbrev pub RefusesBlock : List ℕ → Type 0
-RefusesBlock block = (tree : RequestHead) (size : ℕ) → IsHead block tree → ¬ (Frames (fields_of tree) size)
+abbrev pub RejectsBlock : List ℕ → Type 0
+RejectsBlock block = (tree : RequestHead) (size : ℕ) → IsHead block tree → ¬ (Frames (fields_of tree) size)

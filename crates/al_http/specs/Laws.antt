@@ -1,5 +1,7 @@
--- Laws of the request stream.
+-- Laws of the request stream, and of writes one after the other.
 use Rattle.std.specs.Prelude.{◌≡◌, ℕ, ◌<◌, List, [], ◌∷◌, ◌++◌, length, Option, Some, None, Ok, Err}
+use Rattle.std.specs.Io.KnownBytes.{Appends}
+use Rattle.al_http.specs.Fronts.{AppendsFront}
 use Rattle.al_http.specs.declared.framer.Stop.TheVariants.{ReadFault}
 use Rattle.al_http.specs.declared.framer.Stop.TheVariants as stops
 use Rattle.al_http.specs.declared.request.HttpRequest.{HttpRequest}
@@ -50,3 +52,11 @@ EndsWhole =
     × (length requests < request_limit → Moves old new (Err stops.Cut) → IsWhole start requests Cut)
     × (length requests < request_limit → Moves old new (Err stops.Bad) → IsWhole start requests Rejected)
     × (length requests ≡ request_limit → IsWhole start requests Limit)
+
+-- A text and then another are the two, one after the other,
+abbrev pub WholeThenWhole : Type 0
+WholeThenWhole = (a b c : Option (List ℕ)) (first second : List ℕ) → Appends a b first → Appends b c second → Appends a c (first ++ second)
+
+-- and a text and then a front of another are a front of the two.
+abbrev pub WholeThenFront : Type 0
+WholeThenFront = (a b c : Option (List ℕ)) (first second : List ℕ) → Appends a b first → AppendsFront b c second → AppendsFront a c (first ++ second)

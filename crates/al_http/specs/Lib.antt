@@ -1,10 +1,11 @@
 pub mod Blocks
-pub mod Desks
+pub mod InputBuffers
 pub mod ErrorRows
 pub mod Fronts
 pub mod Heads
 pub mod Laws
 pub mod Moves
+pub mod OutputBuffers
 pub mod Phrases
 pub mod Requests
 pub mod Responses

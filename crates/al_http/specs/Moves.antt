@@ -4,7 +4,7 @@ use Rattle.std.specs.Io.KnownBytes.{prepend_known, Keeps}
 use Rattle.al_http.specs.declared.framer.Stop.{Stop}
 use Rattle.al_http.specs.declared.framer.Stop.TheVariants.{ReadFault, Cut, Bad}
 use Rattle.al_http.specs.declared.request.HttpRequest.{HttpRequest}
-use Rattle.al_http.specs.Requests.{RequestMessage, FirstRequest, HasEnded, IsCut, IsBad}
+use Rattle.al_http.specs.Requests.{RequestMessage, FirstRequest, HasEnded, IsCut, IsRejected}
 use Rattle.al_http.specs.Shown.{message_of}
 
 -- the bytes held, and then those left, where the source tells them
@@ -26,5 +26,5 @@ abbrev pub Moves : Option (List ℕ) → Option (List ℕ) → Result (Option Ht
 Moves old new (Ok (Some request)) = TakesRequest old new (message_of request)
 Moves old new (Ok None) = Keeps old new × IfSome old HasEnded
 Moves old new (Err Cut) = Keeps old new × IfSome old IsCut
-Moves old new (Err Bad) = Keeps old new × IfSome old IsBad
+Moves old new (Err Bad) = Keeps old new × IfSome old IsRejected
 Moves old new (Err ReadFault) = Keeps old new

@@ -1,22 +1,27 @@
--- The statuses of alarmd's responses and their reason phrases (RFC 9110, section 15).
-use Rattle.std.specs.Prelude.{ℕ, List, Option, Some, None, codes, unwrap_or, IsSome, if◌then◌else◌, ◌==◌}
+-- The statuses of alarmd's responses and their reason phrases (RFC 9110, section 15; 413 has the phrase of RFC 7231).
+use Rattle.std.specs.Prelude.{ℕ, List, [], ◌∷◌, Option, find, option_map, codes, unwrap_or, IsSome, ◌==◌}
+
+-- each status with its phrase
+abbrev pub phrases : List (ℕ × List ℕ)
+phrases =
+    (200, codes "OK")
+    ∷ (201, codes "Created")
+    ∷ (204, codes "No Content")
+    ∷ (400, codes "Bad Request")
+    ∷ (404, codes "Not Found")
+    ∷ (405, codes "Method Not Allowed")
+    ∷ (406, codes "Not Acceptable")
+    ∷ (409, codes "Conflict")
+    ∷ (413, codes "Payload Too Large")
+    ∷ (415, codes "Unsupported Media Type")
+    ∷ (500, codes "Internal Server Error")
+    ∷ (501, codes "Not Implemented")
+    ∷ (503, codes "Service Unavailable")
+    ∷ []
 
 -- the phrase of a status that alarmd answers
 abbrev pub phrase : ℕ → Option (List ℕ)
-phrase status =
-    if status == 200 then Some (codes "OK") else (
-    if status == 201 then Some (codes "Created") else (
-    if status == 204 then Some (codes "No Content") else (
-    if status == 400 then Some (codes "Bad Request") else (
-    if status == 404 then Some (codes "Not Found") else (
-    if status == 405 then Some (codes "Method Not Allowed") else (
-    if status == 406 then Some (codes "Not Acceptable") else (
-    if status == 409 then Some (codes "Conflict") else (
-    if status == 413 then Some (codes "Payload Too Large") else (
-    if status == 415 then Some (codes "Unsupported Media Type") else (
-    if status == 500 then Some (codes "Internal Server Error") else (
-    if status == 501 then Some (codes "Not Implemented") else (
-    if status == 503 then Some (codes "Service Unavailable") else None))))))))))))
+phrase status = option_map (λ row. row.1) (find (λ row. row.0 == status) phrases)
 
 abbrev pub HasPhrase : ℕ → Type 0
 HasPhrase status = IsSome (phrase status)

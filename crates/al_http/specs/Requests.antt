@@ -24,6 +24,10 @@ field_limit = 64
 abbrev pub body_limit : ℕ
 body_limit = 1048576
 
+-- the most bytes of a request
+abbrev pub request_room : ℕ
+request_room = head_limit + body_limit
+
 -- A request: the parts of its head, names as sent and values without the white space around them, and its body.
 pub record RequestMessage : Type 0 where
   pub method : List ℕ
@@ -101,16 +105,16 @@ pub record IsTooLong (bytes : List ℕ) : Type 0 where
   pub no_block : HoldsNoBlock (take head_limit bytes)
 
 -- The block at the front is no head that frames a body.
-pub record HasBadBlock (bytes : List ℕ) : Type 0 where
+pub record HasRejectedBlock (bytes : List ℕ) : Type 0 where
   pub text : List ℕ
   pub rest : List ℕ
   pub parts : bytes ≡ text ++ rest
   pub is_block : IsBlock text
   pub refused : (head : RequestHead) (size : ℕ) → IsHead text head → ¬ (Frames (fields_of head) size)
 
--- The bytes meet a framing refusal.
-abbrev pub IsBad : List ℕ → Type 0
-IsBad bytes = IsTooLong bytes ⊎ HasBadBlock bytes
+-- The bytes are rejected: they hold no head where one has to be.
+abbrev pub IsRejected : List ℕ → Type 0
+IsRejected bytes = IsTooLong bytes ⊎ HasRejectedBlock bytes
 
 -- The bytes end before the head does.
 pub record LacksBlock (bytes : List ℕ) : Type 0 where

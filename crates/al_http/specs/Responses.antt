@@ -4,7 +4,7 @@ use Rattle.std.specs.Char.{is_ascii_alphanumeric}
 use Rattle.std.specs.Fmt.{digit_glyph}
 use Rattle.std.specs.Int.{bit_at}
 use Rattle.std.specs.List.{join_by}
-use Rattle.al_http.specs.ErrorRows.{IsErrorRow, error_row, error_text}
+use Rattle.al_http.specs.ErrorRows.{IsErrorRow, error_row, error_text, bad_head}
 use Rattle.al_http.specs.Phrases.{HasPhrase, phrase_of}
 use Rattle.al_http.specs.declared.response.Content.{Content}
 use Rattle.al_http.specs.declared.response.Content.TheVariants.{Empty, Row, HostMeta, Tree}
@@ -132,6 +132,6 @@ bodiless status place =
 abbrev pub out_of_memory_response : ℕ → Response
 out_of_memory_response place = bodiless 503 (Some place)
 
--- the answer to bytes that are no request, which is always the last
-abbrev pub framing_response : Response
-framing_response = refusal 1 None
+-- the answer to bytes that are rejected, which is always the last
+abbrev pub rejection_response : Response
+rejection_response = refusal bad_head None

@@ -1,5 +1,5 @@
--- What a scan for the end of a block has seen.
-use Rattle.std.specs.Prelude.{◌≡◌, ◌≤◌, ℕ, false, List, [], ◌∷◌, ◌++◌, length, take}
+-- What a scan for the end of a block has seen, and one for empty lines.
+use Rattle.std.specs.Prelude.{◌≡◌, ◌≤◌, ℕ, Bool, false, not, ◌&&◌, ◌==◌, if◌then◌else◌, List, [], ◌∷◌, ◌++◌, length, take}
 use Rattle.std.specs.List.{list_any}
 use Rattle.al_http.specs.declared.scan.Seen.{Seen}
 use Rattle.al_http.specs.declared.scan.Seen.TheVariants.{Nothing, Text, LineFeed, Return}
@@ -29,3 +29,9 @@ pub record IsAfter (seen : Seen) (bytes : List ℕ) : Type 0 where
 abbrev pub Looks : List ℕ → List ℕ → Look → Type 0
 Looks front bytes (Ends count) = (count ≤ length bytes) × IsBlock (front ++ take count bytes)
 Looks front bytes (Goes seen) = IsAfter seen (front ++ bytes)
+
+-- The bytes are ends of lines alone, each LF or CR LF, after a CR or not: after a CR the next byte has to be LF.
+abbrev pub are_line_ends : Bool → List ℕ → Bool
+are_line_ends after_return [] = not after_return
+are_line_ends after_return (b ∷ bytes) =
+    if b == line_feed then are_line_ends false bytes else (b == carriage_return && not after_return && are_line_ends (not after_return) bytes)

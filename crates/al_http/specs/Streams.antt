@@ -1,8 +1,8 @@
 -- The request stream: the requests that a list of bytes is, one after the other, and how it ends.
 use Rattle.std.specs.Prelude.{◌≡◌, ℕ, ◌<◌, List, [], ◌∷◌, length, Option, Some, None, IfSome, ⊤}
-use Rattle.al_http.specs.Requests.{RequestMessage, FirstRequest, HasEnded, IsCut, IsBad}
+use Rattle.al_http.specs.Requests.{RequestMessage, FirstRequest, HasEnded, IsCut, IsRejected}
 
--- How a stream ends: with its input, at the greatest number of requests, inside a request, or at a framing refusal.
+-- How a stream ends: with its input, at the greatest number of requests, inside a request, or rejected.
 pub data Ending : Type 0 where
   Ended Limit Cut Rejected : Ending
 
@@ -19,7 +19,7 @@ Cuts bytes (request ∷ requests) rest = (after : List ℕ) × FirstRequest byte
 abbrev pub RestEnds : List ℕ → Ending → Type 0
 RestEnds rest Ended = HasEnded rest
 RestEnds rest Cut = IsCut rest
-RestEnds rest Rejected = IsBad rest
+RestEnds rest Rejected = IsRejected rest
 RestEnds rest Limit = ⊥
 
 -- After that many requests a stream ends so: at the limit whatever is left, and else as what is left does.

@@ -4,8 +4,9 @@ ghost use Rattle.std.specs.Prelude.{◌≡◌, ◌+◌, ◌≤◌, ◌++◌, len
 ghost use Rattle.al_http.specs.ErrorRows.{IsErrorRow, error_row as row_of, error_text};
 ghost use Rattle.al_http.specs.Responses.{body_of, media_type_of, HasRow};
 ghost use Rattle.al_http.specs.Told.{told};
+ghost use Rattle.al_http.specs.OutputBuffers.{output_room};
 
-use crate::buffer::{Buffer, ROOM};
+use crate::output_buffer::OutputBuffer;
 use crate::error_row::{ErrorRow, error_row};
 use crate::response::Content;
 
@@ -42,8 +43,8 @@ pub fn media_type(content: &Content) -> &'static str
 }
 
 /// The error list with one error.
-fn push_error(buffer: &mut Buffer, row: &ErrorRow)
-    requires { length buffer.old + length row.now.message.now + length row.now.tag.now + length row.now.error_type.now + 100 ≤ ROOM }
+fn push_error(buffer: &mut OutputBuffer, row: &ErrorRow)
+    requires { length buffer.old + length row.now.message.now + length row.now.tag.now + length row.now.error_type.now + 100 ≤ output_room }
     ensures { buffer.new ≡ buffer.old ++ error_text (told row.now) }
 {
     buffer.push_text("{\"ietf-restconf:errors\":{\"error\":[{\"error-message\":\"");
@@ -56,9 +57,9 @@ fn push_error(buffer: &mut Buffer, row: &ErrorRow)
 }
 
 /// The body of a refusal.
-pub fn push_row(buffer: &mut Buffer, number: u8)
+pub fn push_row(buffer: &mut OutputBuffer, number: u8)
     requires row { IsErrorRow number }
-    requires room { length buffer.old + 200 ≤ ROOM }
+    requires room { length buffer.old + 200 ≤ output_room }
     ensures { buffer.new ≡ buffer.old ++ error_text (row_of number) }
 {
     push_error(buffer, &error_row(number));

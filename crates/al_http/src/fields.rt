@@ -2,16 +2,18 @@
 
 ghost use Rattle.std.specs.Prelude.{◌≡◌, ◌+◌, ◌<◌, ◌≤◌, ◌++◌, ◌||◌, ◌==◌, if◌then◌else◌, [], codes, decimal, length};
 ghost use Rattle.std.specs.Int.{bit_at};
-ghost use Rattle.al_http.specs.Responses.{field, fields_text, status_line, place_field, method_list, allow_field, connection_field, media_type_of, HasRow};
+ghost use Rattle.al_http.specs.Responses.{field, fields_text, status_line, place_field, method_list, allow_field, connection_field, media_type_of, HasText};
+ghost use Rattle.al_http.specs.Phrases.{HasPhrase};
+ghost use Rattle.al_http.specs.OutputBuffers.{output_room, most_field_bytes};
 
 use crate::body::{body_len, media_type};
-use crate::buffer::{Buffer, ROOM};
+use crate::output_buffer::OutputBuffer;
 use crate::phrase::phrase_of;
 use crate::response::{Content, Response};
 use itoa::Buffer as Digits;
 
-fn push_field(buffer: &mut Buffer, name: &str, value: &str)
-    requires { length buffer.old + length name.now + length value.now + 4 ≤ ROOM }
+fn push_field(buffer: &mut OutputBuffer, name: &str, value: &str)
+    requires { length buffer.old + length name.now + length value.now + 4 ≤ output_room }
     ensures text { buffer.new ≡ buffer.old ++ field name.now value.now }
     ensures grown { length buffer.new ≡ length buffer.old + length name.now + length value.now + 4 }
 {
@@ -21,8 +23,8 @@ fn push_field(buffer: &mut Buffer, name: &str, value: &str)
     buffer.push_text("\r\n");
 }
 
-fn push_number_field(buffer: &mut Buffer, name: &str, number: u64)
-    requires { length buffer.old + length name.now + 44 ≤ ROOM }
+fn push_number_field(buffer: &mut OutputBuffer, name: &str, number: u64)
+    requires { length buffer.old + length name.now + 44 ≤ output_room }
     ensures text { buffer.new ≡ buffer.old ++ field name.now (decimal number) }
     ensures grown { length buffer.new ≤ length buffer.old + length name.now + 44 }
 {
@@ -31,8 +33,9 @@ fn push_number_field(buffer: &mut Buffer, name: &str, number: u64)
 }
 
 #[tactic(auto, unfolding(crate::specs::Responses::status_line))]
-fn push_status(buffer: &mut Buffer, status: u16)
-    requires { length buffer.old + 80 ≤ ROOM }
+fn push_status(buffer: &mut OutputBuffer, status: u16)
+    requires phrase { HasPhrase status }
+    requires room { length buffer.old + 80 ≤ output_room }
     ensures text { buffer.new ≡ buffer.old ++ status_line status }
     ensures grown { length buffer.new ≤ length buffer.old + 80 }
 {
@@ -45,8 +48,8 @@ fn push_status(buffer: &mut Buffer, status: u16)
 }
 
 #[tactic(auto, unfolding(crate::specs::Responses::place_field))]
-fn push_place(buffer: &mut Buffer, place: Option<u64>)
-    requires { length buffer.old + 60 ≤ ROOM }
+fn push_place(buffer: &mut OutputBuffer, place: Option<u64>)
+    requires { length buffer.old + 60 ≤ output_room }
     ensures text { buffer.new ≡ buffer.old ++ place_field place }
     ensures grown { length buffer.new ≤ length buffer.old + 60 }
 {
@@ -64,8 +67,8 @@ fn is_set(allow: u8, bit: u32) -> bool
 }
 
 /// Adds a method to the list where its bit is set, and answers whether the list has one now.
-fn push_method(buffer: &mut Buffer, has_one: bool, is_allowed: bool, method: &str) -> bool
-    requires { length buffer.old + 2 + length method.now ≤ ROOM }
+fn push_method(buffer: &mut OutputBuffer, has_one: bool, is_allowed: bool, method: &str) -> bool
+    requires { length buffer.old + 2 + length method.now ≤ output_room }
     ensures text { buffer.new ≡ buffer.old ++ (if is_allowed then (if has_one then codes ", " ++ method.now else method.now) else []) }
     ensures grown { length buffer.new ≤ length buffer.old + 2 + length method.now }
     ensures one { result ≡ (has_one || is_allowed) }
@@ -80,8 +83,8 @@ fn push_method(buffer: &mut Buffer, has_one: bool, is_allowed: bool, method: &st
     true
 }
 
-fn push_methods(buffer: &mut Buffer, allow: u8)
-    requires { length buffer.old + 40 ≤ ROOM }
+fn push_methods(buffer: &mut OutputBuffer, allow: u8)
+    requires { length buffer.old + 40 ≤ output_room }
     ensures text { buffer.new ≡ buffer.old ++ method_list allow }
     ensures grown { length buffer.new ≤ length buffer.old + 40 }
 {
@@ -93,8 +96,8 @@ fn push_methods(buffer: &mut Buffer, allow: u8)
 }
 
 #[tactic(auto, unfolding(crate::specs::Responses::allow_field))]
-fn push_allow(buffer: &mut Buffer, status: u16, allow: u8)
-    requires { length buffer.old + 60 ≤ ROOM }
+fn push_allow(buffer: &mut OutputBuffer, status: u16, allow: u8)
+    requires { length buffer.old + 60 ≤ output_room }
     ensures text { buffer.new ≡ buffer.old ++ allow_field status allow }
     ensures grown { length buffer.new ≤ length buffer.old + 60 }
 {
@@ -106,8 +109,8 @@ fn push_allow(buffer: &mut Buffer, status: u16, allow: u8)
 }
 
 #[tactic(auto, unfolding(crate::specs::Responses::connection_field))]
-fn push_connection(buffer: &mut Buffer, last: bool)
-    requires { length buffer.old + 20 ≤ ROOM }
+fn push_connection(buffer: &mut OutputBuffer, last: bool)
+    requires { length buffer.old + 20 ≤ output_room }
     ensures text { buffer.new ≡ buffer.old ++ connection_field last }
     ensures grown { length buffer.new ≤ length buffer.old + 20 }
 {
@@ -116,8 +119,8 @@ fn push_connection(buffer: &mut Buffer, last: bool)
     }
 }
 
-fn push_length(buffer: &mut Buffer, status: u16, len: u64)
-    requires { length buffer.old + 60 ≤ ROOM }
+fn push_length(buffer: &mut OutputBuffer, status: u16, len: u64)
+    requires { length buffer.old + 60 ≤ output_room }
     ensures text { buffer.new ≡ buffer.old ++ (if status == 204 then [] else field (codes "Content-Length") (decimal len)) }
     ensures grown { length buffer.new ≤ length buffer.old + 60 }
 {
@@ -126,8 +129,8 @@ fn push_length(buffer: &mut Buffer, status: u16, len: u64)
     }
 }
 
-fn push_type(buffer: &mut Buffer, content: &Content, len: usize)
-    requires { length buffer.old + 60 ≤ ROOM }
+fn push_type(buffer: &mut OutputBuffer, content: &Content, len: usize)
+    requires { length buffer.old + 60 ≤ output_room }
     ensures text { buffer.new ≡ buffer.old ++ (if len == 0 then [] else field (codes "Content-Type") (media_type_of content.now)) }
     ensures grown { length buffer.new ≤ length buffer.old + 60 }
 {
@@ -138,11 +141,11 @@ fn push_type(buffer: &mut Buffer, content: &Content, len: usize)
 
 /// All of a head's lines but Location and the empty one.
 #[tactic(auto, unfolding(crate::specs::Responses::fields_text, crate::specs::Responses::length_field, crate::specs::Responses::type_field))]
-pub fn push_fields(buffer: &mut Buffer, response: &Response, last: bool)
+pub fn push_fields(buffer: &mut OutputBuffer, response: &Response, last: bool)
     requires empty { buffer.old ≡ [] }
-    requires body { HasRow response.now.content }
+    requires response { HasText response.now }
     ensures text { buffer.new ≡ fields_text response.now last }
-    ensures grown { length buffer.new ≤ 400 }
+    ensures grown { length buffer.new ≤ most_field_bytes }
 {
     let len = body_len(&response.content);
     push_status(buffer, response.status);

@@ -3,7 +3,7 @@ ghost use Rattle.std.specs.Borrow.{sem};
 ghost use Rattle.std.specs.Io.BufRead.{Rests};
 ghost use Rattle.al_base.specs.Outside.{Rose};
 
-use crate::desk::Desk;
+use crate::input_buffer::InputBuffer;
 use crate::request::HttpRequest;
 use al_base::Source;
 use std::alloc::{AllocError, Global};
@@ -18,7 +18,7 @@ pub enum Stop {
     ReadFault,
     /// The input ends inside a request.
     Cut,
-    /// The input is no request: a framing refusal.
+    /// The input is rejected: its head is bad.
     Bad,
 }
 
@@ -27,7 +27,7 @@ impl fmt::Display for Stop {
         f.write_str(match self {
             Stop::ReadFault => "a read failed",
             Stop::Cut => "the input ends inside a request",
-            Stop::Bad => "the input is no request",
+            Stop::Bad => "the input has a bad head",
         })
     }
 }
@@ -37,28 +37,28 @@ impl Error for Stop {}
 /// Cuts the bytes of a source into requests (RFC 9112). Contracts see it as the bytes that it has read and not yet given.
 #[derive(Drop)]
 pub struct Framer {
-    desk: Desk,
+    buffer: InputBuffer,
 }
 
 impl Model for Framer {
     ghost use Rattle.std.specs.Prelude.{List, ℕ};
-    ghost use Rattle.al_http.specs.Desks.{held_bytes};
+    ghost use Rattle.al_http.specs.InputBuffers.{held_bytes};
 
     ghost Value = { List ℕ };
 
-    ghost view = { λ f. held_bytes f.desk };
+    ghost view = { λ f. held_bytes f.buffer };
 }
 
 impl Framer {
     ghost use Rattle.al_http.specs.contracts.framer.Framer.{the_row};
     ghost use Rattle.al_http.specs.Moves.{Moves, stream_of};
 
-    /// A framer with all the room that it will need: for a head of 16,384 bytes, the places of 64 fields and a body of 1,048,576 bytes.
+    /// A framer with all the room that it will need: for a head of 16,384 bytes with 64 fields, and a body of 1,048,576 bytes.
     pub fn new(alloc: Global) -> Result<Framer, AllocError>
         ensures { IfOk result (λ framer. framer ≡ []) }
     {
         Ok(Framer {
-            desk: Desk::new(alloc)?,
+            buffer: InputBuffer::new(alloc)?,
         })
     }
 
@@ -66,7 +66,7 @@ impl Framer {
     pub fn clear(&mut self)
         ensures { self.new ≡ [] }
     {
-        self.desk.clear();
+        self.buffer.clear();
     }
 
     /// The next request of the stream, which is the bytes held and then those that the source has left, in whatever pieces they come.
@@ -76,13 +76,10 @@ impl Framer {
         ensures later { S.faults source.old ≤ S.faults source.new }
         ensures cause { result ≡ Err Stop.ReadFault → Rose (S.faults source.old) (S.faults source.new) }
     {
-        match self.desk.take_request(source) {
-            Ok(Some(place)) => Ok(Some(self.desk.request_at(place))),
+        match self.buffer.take_request(source) {
+            Ok(Some(extent)) => Ok(Some(self.buffer.request_at(extent))),
             Ok(None) => Ok(None),
             Err(stop) => Err(stop),
         }
     }
 }
-
-#[cfg(test)]
-mod tests;

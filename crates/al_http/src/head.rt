@@ -7,7 +7,7 @@ ghost use Rattle.httparse.specs.Grammar.{RequestHead};
 ghost use Rattle.httparse.specs.Spans.{IsHeaderWithin, IsRequestWithin, IsRequestAt, span_bytes, header_bytes};
 ghost use Rattle.al_http.specs.Blocks.{IsBlock};
 ghost use Rattle.al_http.specs.Requests.{values_of, digits_number, Frames, IsHead};
-ghost use Rattle.al_http.specs.Heads.{ReadsHead, RefusesBlock};
+ghost use Rattle.al_http.specs.Heads.{ReadsHead, RejectsBlock};
 
 use httparse::Status;
 use httparse::spans::{HeaderSpan, RequestSpans, parse_request};
@@ -106,7 +106,7 @@ pub(crate) fn read_head(block: &[u8], spans: &mut [HeaderSpan]) -> Option<(Reque
     requires short { length block.now ≤ 16384 }
     requires places { length spans.old ≡ 64 }
     ensures reads { IfSome result (λ found. ReadsHead block.now spans.new found.0 found.1) }
-    ensures refuses { IfNone result (RefusesBlock block.now) }
+    ensures refuses { IfNone result (RejectsBlock block.now) }
 {
     let Some(head) = parse_head(block, spans) else {
         return None;

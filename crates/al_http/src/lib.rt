@@ -2,8 +2,8 @@
 #![tactic(auto)]
 
 mod body;
-mod buffer;
-mod desk;
+mod output_buffer;
+mod input_buffer;
 mod error_row;
 mod escape;
 mod fields;
@@ -16,7 +16,9 @@ mod scan;
 mod sending;
 pub mod stream;
 
+pub use error_row::{BAD_VALUE, NO_SUCH_PATH};
 pub use framer::{Framer, Stop};
 pub use request::HttpRequest;
 pub use response::{Content, Response};
 pub use sending::{respond, write_all};
+pub use stream::{End, REQUEST_LIMIT, take_all};

@@ -3,7 +3,7 @@
 ghost use Rattle.std.specs.Prelude.{◌≡◌};
 ghost use Rattle.al_http.specs.ErrorRows.{IsErrorRow};
 
-use crate::error_row::error_row;
+use crate::error_row::{BAD_HEAD, error_row};
 use al_base::{List, Text};
 
 /// What a response's body is made of.
@@ -23,7 +23,7 @@ pub enum Content {
 #[derive(Debug, Drop)]
 pub struct Response {
     pub status: u16,
-    /// The length of the history that the request was answered over, None where it was no request.
+    /// The length of the history that the request was answered over, None where the input was rejected.
     pub place: Option<u64>,
     /// The methods that a resource has, which 405 tells: bits 0 to 4 are DELETE, GET, HEAD, POST, PUT.
     pub allow: u8,
@@ -36,7 +36,7 @@ pub struct Response {
 
 impl Response {
     ghost use Rattle.al_http.specs.Phrases.{HasPhrase};
-    ghost use Rattle.al_http.specs.Responses.{HasText, refusal, bodiless, framing_response, out_of_memory_response};
+    ghost use Rattle.al_http.specs.Responses.{HasText, refusal, bodiless, rejection_response, out_of_memory_response};
 
     /// The refusal of a number from 1 to 29.
     pub fn of_row(row: u8, place: Option<u64>) -> Response
@@ -78,11 +78,11 @@ impl Response {
         Response::bodiless(503, Some(place))
     }
 
-    /// The answer to bytes that are no request.
-    pub fn of_framing() -> Response
-        ensures value { result ≡ framing_response }
+    /// The answer to bytes that are rejected.
+    pub fn of_rejection() -> Response
+        ensures value { result ≡ rejection_response }
         ensures text { HasText result }
     {
-        Response::of_row(1, None)
+        Response::of_row(BAD_HEAD, None)
     }
 }

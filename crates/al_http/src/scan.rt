@@ -1,8 +1,8 @@
 //! Looking for a byte, for the end of a block, line after line, and for empty lines.
 
 ghost use Rattle.std.specs.Prelude.{◌≡◌, ◌≢◌, ℕ, List, [], ◌∷◌, ◌++◌, false, MatchOption, ◌==◌, position, All};
-ghost use Rattle.al_http.specs.Blocks.{line_feed, carriage_return, IsBlock, are_line_ends};
-ghost use Rattle.al_http.specs.Scans.{IsAfter, Looks};
+ghost use Rattle.al_http.specs.Blocks.{line_feed, carriage_return, IsBlock};
+ghost use Rattle.al_http.specs.Scans.{IsAfter, Looks, are_line_ends};
 
 use memchr::memchr;
 
@@ -19,7 +19,7 @@ pub(crate) fn first_at(byte: u8, bytes: &[u8]) -> Option<usize>
 }
 
 /// What was seen of a block that hasn't ended.
-#[derive(Clone, Copy, Debug, PartialEq, Eq)]
+#[derive(Clone, Copy)]
 pub(crate) enum Seen {
     /// No text of a line.
     Nothing,
@@ -85,7 +85,7 @@ impl Seen {
 }
 
 /// What looking on over further bytes found.
-#[derive(Clone, Copy, Debug, PartialEq, Eq)]
+#[derive(Clone, Copy)]
 pub(crate) enum Look {
     /// The block ends with that many of them.
     Ends(usize),

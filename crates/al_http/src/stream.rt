@@ -1,9 +1,33 @@
-//! Laws of the request stream, for every list of bytes.
+//! Laws of the request stream, for every list of bytes, and a walk through a whole one.
 
-ghost use Rattle.std.specs.Prelude.{ℕ, List};
+ghost use Rattle.std.specs.Prelude.{◌≡◌, ℕ, List, length, IfOk, OnErr};
+ghost use Rattle.al_base.specs.Outside.{Rose};
 ghost use Rattle.al_http.specs.Laws.{HasOneRequest, GoesOnOrEnds, HasOneEnd, IsOneStream, GivesNothingFirst, GivesOneMore, StaysAtFault, EndsWhole};
+ghost use Rattle.al_http.specs.Moves.{stream_of};
+ghost use Rattle.al_http.specs.Requests.{RequestMessage};
+ghost use Rattle.al_http.specs.Streams.{IsWhole};
+ghost use Rattle.al_http.specs.Told.{ending_of};
 
-/// Bytes have one first request at most, or they end, in one way at most. So they are one list of requests, with one ending.
+use crate::framer::{Framer, Stop};
+use al_base::{ReadFault, Source};
+
+/// The most requests of one stream.
+pub const REQUEST_LIMIT: u64 = 1_000_000;
+
+/// How a stream ends.
+#[derive(Clone, Copy, Debug, PartialEq, Eq)]
+pub enum End {
+    /// The input ends.
+    Input,
+    /// The last request that a stream may have was taken.
+    Limit,
+    /// The input ends inside a request.
+    Cut,
+    /// The input is rejected.
+    Rejected,
+}
+
+/// Bytes have one first request at most, or they end, in one way at most. So they are one list of requests at most, with one ending.
 pub fn stream_is_unique()
     ensures one_request { (bytes : List ℕ) → HasOneRequest bytes }
     ensures no_end { (bytes : List ℕ) → GoesOnOrEnds bytes }
@@ -18,3 +42,21 @@ pub fn calls_are_a_run()
     ensures stays { StaysAtFault }
     ensures ends { EndsWhole }
 {}
+
+/// Takes all requests of a stream: how many there are, and how it ends. So bytes that are told and read without a fault are such a list.
+pub fn take_all<S: Source>(framer: &mut Framer, source: &mut S) -> Result<(u64, End), ReadFault>
+    ensures whole { IfOk result (λ taken. (requests : List RequestMessage) × (length requests ≡ taken.0) × IsWhole (stream_of framer.old (S.left source.old)) requests (ending_of taken.1)) }
+    ensures cause { OnErr result (Rose (S.faults source.old) (S.faults source.new)) }
+{
+    let mut count = 0;
+    while count < REQUEST_LIMIT {
+        match framer.next(source) {
+            Ok(Some(_)) => count += 1,
+            Ok(None) => return Ok((count, End::Input)),
+            Err(Stop::ReadFault) => return Err(ReadFault),
+            Err(Stop::Cut) => return Ok((count, End::Cut)),
+            Err(Stop::Bad) => return Ok((count, End::Rejected)),
+        }
+    }
+    Ok((count, End::Limit))
+}

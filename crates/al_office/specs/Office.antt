@@ -27,6 +27,6 @@ IsAsDecided old origin now (Same reply) result new = (result ≡ Ok reply) × (n
 IsAsDecided old origin now (Change event reply) result new = (result ≡ Ok reply) × (new ≡ old ++ entry_of (replay old) origin event now ∷ [])
 
 -- A request is answered as it is decided, or for want of memory, which leaves the entries as they were.
-abbrev pub IsAnswer : List Entry → ℕ → Request → ℕ → Result Reply Refusal → List Entry → Type 0
-IsAnswer old origin request now result new =
+abbrev pub IsChangeAnswer : List Entry → ℕ → Request → ℕ → Result Reply Refusal → List Entry → Type 0
+IsChangeAnswer old origin request now result new =
     ((result ≡ Err Memory) × (new ≡ old)) ⊎ IsAsDecided old origin now (decision_of (replay old) request now) result new

@@ -3,4 +3,5 @@ pub mod Decision
 pub mod History
 pub mod Laws
 pub mod Limits
+pub mod Refusals
 pub mod State

@@ -18,6 +18,21 @@ pub enum Refusal {
     Memory,
 }
 
+impl Refusal {
+    ghost use Rattle.std.specs.Prelude.{◌≡◌};
+    ghost use Rattle.al_report.specs.Refusals.{refusal_number};
+
+    /// The number of the refusal's row in the table of error answers, and 30 for want of memory, which has no row.
+    pub fn number(self) -> u8
+        ensures { result ≡ refusal_number self }
+    {
+        match self {
+            Refusal::ClockEnd => 26,
+            Refusal::Memory => 30,
+        }
+    }
+}
+
 impl fmt::Display for Refusal {
     fn fmt<W: fmt::Write>(&self, f: &mut fmt::Formatter<W>) -> fmt::Result {
         f.write_str(match self {

@@ -8,15 +8,16 @@ use Rattle.al_http.specs.Responses.{refusal, bodiless}
 use Rattle.al_http.specs.declared.response.Response.{Response}
 use Rattle.al_report.specs.Decision.{decision_of, entry_of}
 use Rattle.al_report.specs.History.{replay}
+use Rattle.al_report.specs.Refusals.{refusal_number}
 use Rattle.al_report.specs.declared.decision.Decision.{Decision}
 use Rattle.al_report.specs.declared.decision.Decision.TheVariants.{Refuse, Same, Change}
 use Rattle.al_report.specs.declared.decision.Refusal.TheVariants.{ClockEnd, Memory}
 use Rattle.al_report.specs.declared.decision.Reply.{Reply}
 use Rattle.al_report.specs.declared.entry.Entry.{Entry}
 use Rattle.al_report.specs.declared.request.Request.{Request}
-use Rattle.al_office.specs.Office.{IsAsDecided, IsAnswer as IsOfficeAnswer}
+use Rattle.al_office.specs.Office.{IsAsDecided, IsChangeAnswer}
 use Rattle.alarmd.specs.Exchanges.{Answered}
-use Rattle.alarmd.specs.Machine.{AsksCount, BringsReport, AnswersReport, Carries, IsAnswer, RefusesPath, clock_at_its_end, count_response}
+use Rattle.alarmd.specs.Machine.{AsksCount, BringsReport, AnswersReport, Carries, IsAnswer, RefusesPath, count_response}
 use Rattle.alarmd.specs.Reports.{IsReport}
 
 -- the answer to the one report of a body, when it was decided upon
@@ -45,20 +46,20 @@ module _ (old new : List Entry) (origin : ℕ) (body : List ℕ) (now : ℕ) (re
       let entry : Entry = entry_of (replay old) origin event now in
       answers old new (entry ∷ []) origin body now report response is only decided.1 (All-from_recursion (λ (entry : Entry). entry.origin ≡ origin) (entry ∷ []) (refl, tt)) (omega arith) (rw e (told, refl))
 
-  pub answers_done : IsReport body report → ((other : Request) → IsReport body other → other ≡ report) → IsOfficeAnswer old origin report now (Ok reply) new → response ≡ bodiless 204 (Some (length old)) → AnswersReport old new origin body now response
+  pub answers_done : IsReport body report → ((other : Request) → IsReport body other → other ≡ report) → IsChangeAnswer old origin report now (Ok reply) new → response ≡ bodiless 204 (Some (length old)) → AnswersReport old new origin body now response
   answers_done is only (inl memory) told = absurd (let no = memory.0 in cc)
   answers_done is only (inr decided) told = done_by (decision_of (replay old) report now) refl is only decided told
 
 -- a decision that the clock is at its end is told
 module _ (old new : List Entry) (origin : ℕ) (body : List ℕ) (now : ℕ) (report : Request) (response : Response) where
-  ended_by : (d : Decision) → decision_of (replay old) report now ≡ d → IsReport body report → ((other : Request) → IsReport body other → other ≡ report) → IsAsDecided old origin now d (Err ClockEnd) new → response ≡ refusal clock_at_its_end (Some (length old)) → AnswersReport old new origin body now response
+  ended_by : (d : Decision) → decision_of (replay old) report now ≡ d → IsReport body report → ((other : Request) → IsReport body other → other ≡ report) → IsAsDecided old origin now d (Err ClockEnd) new → response ≡ refusal (refusal_number ClockEnd) (Some (length old)) → AnswersReport old new origin body now response
   ended_by (Refuse ClockEnd) e is only decided told =
       answers old new [] origin body now report response is only (rw append-nil decided.1) (none_own origin) (omega arith) (rw e (told, refl))
   ended_by (Refuse Memory) e is only decided told = absurd (let no = decided.0 in cc)
   ended_by (Same same) e is only decided told = absurd (let no = decided.0 in cc)
   ended_by (Change event made) e is only decided told = absurd (let no = decided.0 in cc)
 
-  pub answers_ended : IsReport body report → ((other : Request) → IsReport body other → other ≡ report) → IsOfficeAnswer old origin report now (Err ClockEnd) new → response ≡ refusal clock_at_its_end (Some (length old)) → AnswersReport old new origin body now response
+  pub answers_ended : IsReport body report → ((other : Request) → IsReport body other → other ≡ report) → IsChangeAnswer old origin report now (Err ClockEnd) new → response ≡ refusal (refusal_number ClockEnd) (Some (length old)) → AnswersReport old new origin body now response
   answers_ended is only (inl memory) told = absurd (let no = memory.0 in cc)
   answers_ended is only (inr decided) told = ended_by (decision_of (replay old) report now) refl is only decided told
 

@@ -1,11 +1,11 @@
 -- Turns one after the other: what they were asked, what they wrote, and when.
 use Rattle.std.proofs.lemmas.List.{append-nil, length-append, length-map, map-append}
-use Rattle.std.proofs.Common.{◌≡◌, ℕ, ◌+◌, ◌==◌, Option, None, Some, IfSome, Result, Ok, Err, OnOk, OnErr, MatchResult, List, [], ◌∷◌, ◌++◌, length, map, refl, sym, ap, ◌∙◌, append_assoc, add-zero, suc, true, option_map, ◌<◌, ◌⊎◌, inl, inr, arith}
+use Rattle.std.proofs.Common.{◌≡◌, ℕ, ◌+◌, ◌==◌, Option, None, Some, IfSome, Result, Ok, Err, OnOk, OnErr, MatchResult, List, [], ◌∷◌, ◌++◌, length, map, take, refl, sym, ap, ◌∙◌, append_assoc, add-zero, suc, true, option_map, ◌<◌, ◌⊎◌, inl, inr, arith}
 use Rattle.std.specs.Io.KnownBytes.{Appends}
 use Rattle.al_base.specs.Readings.{Readings, next_reading, after_reading}
 use Rattle.al_base.specs.declared.outside.WriteFault.{WriteFault}
-use Rattle.al_http.proofs.FrontLemmas.{appends_more, front_longer, front_more}
-use Rattle.al_http.proofs.StreamLaws.{given_nothing, given_more, ends_cut, ends_rejected}
+use Rattle.al_http.proofs.FrontLaws.{appends_more}
+use Rattle.al_http.proofs.StreamLaws.{given_nothing, given_more, ends_ended, ends_cut, ends_rejected, ends_limit}
 use Rattle.al_http.specs.Fronts.{AppendsFront}
 use Rattle.al_http.specs.Moves.{Moves}
 use Rattle.al_http.specs.Shown.{message_of}
@@ -14,12 +14,10 @@ use Rattle.al_http.specs.declared.request.HttpRequest.{HttpRequest}
 use Rattle.alarmd.specs.declared.conversation.Cause.{Cause}
 use Rattle.alarmd.specs.declared.conversation.Cause.TheVariants as causes
 use Rattle.al_http.specs.Requests.{RequestMessage}
-use Rattle.al_http.specs.Responses.{response_text, framing_response}
 use Rattle.al_http.specs.Streams.{HasGiven, request_limit}
-use Rattle.al_http.specs.declared.response.Response.{Response}
 use Rattle.al_report.specs.declared.entry.Entry.{Entry}
-use Rattle.alarmd.specs.Exchanges.{Turn, IsTurn, IsExchange}
-use Rattle.alarmd.specs.Conversations.{texts_from, texts_of, Gave, GaveKnown, BeginsWith, IsConversation, TakesTurn}
+use Rattle.alarmd.specs.Exchanges.{Answers, Turn, IsTurn, IsExchange}
+use Rattle.alarmd.specs.Conversations.{Outside, requests_of, readings_of, text_of, texts_from, texts_of, rejection_text, Gave, GaveKnown, BeginsWith, AppendsInto, IsConversation, TakesTurn}
 
 -- what stands of each outcome stands of the outcome
 pub match_both : {T E : Type 0} (P Q : Type 0) (r : Result T E) → OnOk r P → OnErr r Q → MatchResult r (λ _. P) (λ _. Q)
@@ -44,29 +42,40 @@ gave_known_more (Some old) readings (Some mid) reading None so_far one = absurd 
 gave_known_more (Some old) readings (Some mid) reading (Some new) so_far one = gave_more old readings mid reading new so_far one
 
 -- an exchange, and then one more turn
-pub exchange_more : (answers : List Entry → ℕ → RequestMessage → ℕ → Response → List Entry → Type 0) (origin : ℕ) (before : List Entry) (turns : List Turn) (mid : List Entry) (turn : Turn) (after : List Entry) → IsExchange answers origin before turns mid → IsTurn answers origin mid turn → after ≡ mid ++ turn.entries → IsExchange answers origin before (turns ++ turn ∷ []) after
+exchange_more : (answers : Answers) (origin : ℕ) (before : List Entry) (turns : List Turn) (mid : List Entry) (turn : Turn) (after : List Entry) → IsExchange answers origin before turns mid → IsTurn answers origin mid turn → after ≡ mid ++ turn.entries → IsExchange answers origin before (turns ++ turn ∷ []) after
 exchange_more answers origin before [] mid turn after so_far taken grown = (rw (← so_far) taken, rw (← so_far) grown)
 exchange_more answers origin before (first ∷ turns) mid turn after so_far taken grown =
     (so_far.0, exchange_more answers origin (before ++ first.entries) turns mid turn after so_far.1 taken grown)
 
 -- the texts of turns, and then of one more
-texts_more : (number : ℕ) (turns : List Turn) (turn : Turn) → texts_from number (turns ++ turn ∷ []) ≡ texts_from number turns ++ response_text turn.response (number + length turns == request_limit)
+texts_more : (number : ℕ) (turns : List Turn) (turn : Turn) → texts_from number (turns ++ turn ∷ []) ≡ texts_from number turns ++ text_of (number + length turns) turn
 texts_more number [] turn = rw (append-nil, add-zero) refl
 texts_more number (first ∷ turns) turn =
     let next : number + suc (length turns) ≡ number + 1 + length turns = omega arith in
-    rw (next, texts_more (number + 1) turns turn) (sym (append_assoc (response_text first.response (number == request_limit)) (texts_from (number + 1) turns) (response_text turn.response (number + 1 + length turns == request_limit))))
+    rw (next, texts_more (number + 1) turns turn) (sym (append_assoc (text_of number first) (texts_from (number + 1) turns) (text_of (number + 1 + length turns) turn)))
 
--- A conversation so far: what has come of it since it began.
-pub record SoFar (answers : List Entry → ℕ → RequestMessage → ℕ → Response → List Entry → Type 0) (origin : ℕ) (before after : List Entry) (input left old_output new_output : Option (List ℕ)) (old_clock new_clock : Option Readings) (count : ℕ) : Type 0 where
+-- A conversation so far: what has come of it since it began, and what is left of its input.
+pub record SoFar (answers : Answers) (origin : ℕ) (before after : List Entry) (input left : Option (List ℕ)) (outside : Outside) (count : ℕ) : Type 0 where
   pub turns : List Turn
   pub exchange : IsExchange answers origin before turns after
-  pub requests : HasGiven input (map (λ turn. turn.request) turns) left
-  pub responses : Appends old_output new_output (texts_of turns)
-  pub readings : GaveKnown old_clock (map (λ turn. turn.reading) turns) new_clock
+  pub requests : HasGiven input (requests_of turns) left
+  pub responses : Appends outside.old_output outside.new_output (texts_of turns)
+  pub readings : GaveKnown outside.old_clock (readings_of turns) outside.new_clock
   pub counted : length turns ≡ count
 
+-- the outside of two stretches of work, one after the other
+abbrev pub both : Outside → Outside → Outside
+both first second =
+    record { old_output = first.old_output; new_output = second.new_output; old_clock = first.old_clock; new_clock = second.new_clock }
+
+-- the second stretch begins where the first ends
+pub record Follows (first second : Outside) : Type 0 where
+  pub output : first.new_output ≡ second.old_output
+  pub clock : first.new_clock ≡ second.old_clock
+
 -- before the first request
-pub so_far_begins : (answers : List Entry → ℕ → RequestMessage → ℕ → Response → List Entry → Type 0) (origin : ℕ) (before : List Entry) (input output : Option (List ℕ)) (clock : Option Readings) → SoFar answers origin before before input input output output clock clock 0
+pub so_far_begins : (answers : Answers) (origin : ℕ) (before : List Entry) (input output : Option (List ℕ)) (clock : Option Readings)
+    → SoFar answers origin before before input input (record { old_output = output; new_output = output; old_clock = clock; new_clock = clock }) 0
 so_far_begins answers origin before input output clock =
     record { turns = []; exchange = refl; requests = given_nothing input; responses = appends_nothing output; readings = gave_nothing clock; counted = refl }
   where
@@ -78,12 +87,6 @@ so_far_begins answers origin before input output clock =
     gave_nothing None = tt
     gave_nothing (Some readings) = refl
 
-abbrev requests_of : List Turn → List RequestMessage
-requests_of turns = map (λ turn. turn.request) turns
-
-abbrev readings_of : List Turn → List ℕ
-readings_of turns = map (λ turn. turn.reading) turns
-
 -- the requests, and then of one more turn
 given_turn : (input left new_left : Option (List ℕ)) (turns : List Turn) (turn : Turn) (request : HttpRequest) → HasGiven input (requests_of turns) left → Moves left new_left (Ok (Some request)) → turn.request ≡ message_of request → HasGiven input (requests_of (turns ++ turn ∷ [])) new_left
 given_turn input left new_left turns turn request given moves is =
@@ -94,22 +97,22 @@ gave_turn k m n turns turn gave one =
     rw (map-append (λ (t : Turn). t.reading) turns (turn ∷ [])) (gave_known_more k (readings_of turns) m turn.reading n gave one)
 
 -- the number of the next request
-number_is : (turns : List Turn) (count : ℕ) → length turns ≡ count → 1 + length turns ≡ count + 1
-number_is turns count counted = omega (arith, counted)
-
-text_is : (turns : List Turn) (turn : Turn) (count : ℕ) → length turns ≡ count → texts_of (turns ++ turn ∷ []) ≡ texts_of turns ++ response_text turn.response (count + 1 == request_limit)
+text_is : (turns : List Turn) (turn : Turn) (count : ℕ) → length turns ≡ count → texts_of (turns ++ turn ∷ []) ≡ texts_of turns ++ text_of (count + 1) turn
 text_is turns turn count counted =
-    texts_more 1 turns turn ∙ ap (λ number. texts_of turns ++ response_text turn.response (number == request_limit)) (number_is turns count counted)
+    let number : 1 + length turns ≡ count + 1 = omega (arith, counted) in
+    texts_more 1 turns turn ∙ ap (λ n. texts_of turns ++ text_of n turn) number
 
 -- a turn whose response was written
-pub so_far_more : (answers : List Entry → ℕ → RequestMessage → ℕ → Response → List Entry → Type 0) (origin : ℕ) (before mid after : List Entry) (input left new_left o p q : Option (List ℕ)) (k m n : Option Readings) (count : ℕ) (request : HttpRequest) (done : Unit {0}) → SoFar answers origin before mid input left o p k m count → Moves left new_left (Ok (Some request)) → TakesTurn answers origin mid after (message_of request) p q m n (count + 1) {E = WriteFault} (Ok done) → SoFar answers origin before after input new_left o q k n (count + 1)
-so_far_more answers origin before mid after input left new_left o p q k m n count request done s moves t =
+pub so_far_more : (answers : Answers) (origin : ℕ) (before mid after : List Entry) (input left new_left : Option (List ℕ)) (first second : Outside) (count : ℕ) (request : HttpRequest) (done : Unit {0}) → Follows first second
+    → SoFar answers origin before mid input left first count → Moves left new_left (Ok (Some request)) → TakesTurn answers origin mid after (message_of request) second (count + 1) {E = WriteFault} (Ok done)
+    → SoFar answers origin before after input new_left (both first second) (count + 1)
+so_far_more answers origin before mid after input left new_left first second count request done follows s moves t =
     record {
       turns = s.turns ++ t.turn ∷ [];
       exchange = exchange_more answers origin before s.turns mid t.turn after s.exchange t.taken t.grown;
       requests = given_turn input left new_left s.turns t.turn request s.requests moves t.request_is;
-      responses = rw (text_is s.turns t.turn count s.counted) (appends_more o p q (texts_of s.turns) (response_text t.turn.response (count + 1 == request_limit)) s.responses t.response);
-      readings = gave_turn k m n s.turns t.turn s.readings t.reading;
+      responses = rw (text_is s.turns t.turn count s.counted) (appends_more first.old_output first.new_output second.new_output (texts_of s.turns) (text_of (count + 1) t.turn) s.responses (rw follows.output t.response));
+      readings = gave_turn first.old_clock first.new_clock second.new_clock s.turns t.turn s.readings (rw follows.clock t.reading);
       counted = omega (arith, length-append s.turns (t.turn ∷ []), s.counted);
     }
 
@@ -119,30 +122,62 @@ begins_with None left requests given = tt
 begins_with (Some bytes) None requests given = absurd given
 begins_with (Some bytes) (Some rest) requests given = (rest, given)
 
+-- a whole text, and then a front of another
+into : (a b c : Option (List ℕ)) (first second : List ℕ) → Appends a b first → AppendsFront b c second → AppendsInto a c first second
+into a b c first second whole (count, front) = (count, appends_more a b c first (take count second) whole front)
+
 -- a turn whose response the sink didn't take whole
-pub ends_by_write_fault : (answers : List Entry → ℕ → RequestMessage → ℕ → Response → List Entry → Type 0) (origin : ℕ) (before mid after : List Entry) (input left new_left o p q : Option (List ℕ)) (k m n : Option Readings) (count : ℕ) (request : HttpRequest) (fault : WriteFault) → SoFar answers origin before mid input left o p k m count → Moves left new_left (Ok (Some request)) → TakesTurn answers origin mid after (message_of request) p q m n (count + 1) {E = WriteFault} (Err fault) → IsConversation answers origin before after input o q k n causes.WriteFault
-ends_by_write_fault answers origin before mid after input left new_left o p q k m n count request fault s moves t =
+pub ends_by_write_fault : (answers : Answers) (origin : ℕ) (before mid after : List Entry) (input left new_left : Option (List ℕ)) (first second : Outside) (count : ℕ) (request : HttpRequest) (fault : WriteFault) → Follows first second
+    → SoFar answers origin before mid input left first count → Moves left new_left (Ok (Some request)) → TakesTurn answers origin mid after (message_of request) second (count + 1) {E = WriteFault} (Err fault)
+    → IsConversation answers origin before after input (both first second) causes.WriteFault
+ends_by_write_fault answers origin before mid after input left new_left first second count request fault follows s moves t =
+    let number : length (s.turns ++ t.turn ∷ []) ≡ count + 1 = omega (arith, length-append s.turns (t.turn ∷ []), s.counted) in
     record {
       turns = s.turns ++ t.turn ∷ [];
       exchange = exchange_more answers origin before s.turns mid t.turn after s.exchange t.taken t.grown;
-      requests = begins_with input new_left (requests_of (s.turns ++ t.turn ∷ [])) (given_turn input left new_left s.turns t.turn request s.requests moves t.request_is);
-      responses = front_longer o q (texts_of (s.turns ++ t.turn ∷ [])) (response_text framing_response true) (rw (text_is s.turns t.turn count s.counted) (front_more o p q (texts_of s.turns) (response_text t.turn.response (count + 1 == request_limit)) s.responses t.response));
-      readings = gave_turn k m n s.turns t.turn s.readings t.reading;
+      ends = inl (record {
+        earlier = s.turns;
+        last = t.turn;
+        parts = refl;
+        requests = begins_with input new_left (requests_of (s.turns ++ t.turn ∷ [])) (given_turn input left new_left s.turns t.turn request s.requests moves t.request_is);
+        written = rw number (into first.old_output first.new_output second.new_output (texts_of s.turns) (text_of (count + 1) t.turn) s.responses (rw follows.output t.response));
+      });
+      readings = gave_turn first.old_clock first.new_clock second.new_clock s.turns t.turn s.readings (rw follows.clock t.reading);
     }
 
 few_requests : (turns : List Turn) (count : ℕ) → length turns ≡ count → count < request_limit → length (requests_of turns) < request_limit
 few_requests turns count counted few = rw (length-map turns (λ (t : Turn). t.request), counted) few
 
--- the input ends inside a request
-pub ends_by_cut : (answers : List Entry → ℕ → RequestMessage → ℕ → Response → List Entry → Type 0) (origin : ℕ) (before after : List Entry) (input left new_left o p : Option (List ℕ)) (k m : Option Readings) (count : ℕ) → SoFar answers origin before after input left o p k m count → count < request_limit → Moves left new_left (Err stops.Cut) → IsConversation answers origin before after input o p k m causes.Cut
-ends_by_cut answers origin before after input left new_left o p k m count s few moves =
-    record { turns = s.turns; exchange = s.exchange; requests = ends_cut input left new_left (requests_of s.turns) s.requests (few_requests s.turns count s.counted few) moves; responses = s.responses; readings = s.readings }
+-- a read failed
+pub ends_by_read_fault : (answers : Answers) (origin : ℕ) (before after : List Entry) (input left : Option (List ℕ)) (outside : Outside) (count : ℕ) → SoFar answers origin before after input left outside count
+    → IsConversation answers origin before after input outside causes.ReadFault
+ends_by_read_fault answers origin before after input left outside count s =
+    record { turns = s.turns; exchange = s.exchange; ends = (begins_with input left (requests_of s.turns) s.requests, s.responses); readings = s.readings }
 
--- the input is no request, and that was told, or the sink failed
-pub ends_by_refusal : (answers : List Entry → ℕ → RequestMessage → ℕ → Response → List Entry → Type 0) (origin : ℕ) (before after : List Entry) (input left new_left o p q : Option (List ℕ)) (k m : Option Readings) (count : ℕ) (cause : Cause) → SoFar answers origin before after input left o p k m count → count < request_limit → Moves left new_left (Err stops.Bad)
-    → (cause ≡ causes.Rejected → Appends p q (response_text framing_response true)) → (cause ≡ causes.WriteFault → AppendsFront p q (response_text framing_response true)) → (cause ≡ causes.Rejected) ⊎ (cause ≡ causes.WriteFault)
-    → IsConversation answers origin before after input o q k m cause
-ends_by_refusal answers origin before after input left new_left o p q k m count cause s few moves told fault (inl is) =
-    rw is record { turns = s.turns; exchange = s.exchange; requests = ends_rejected input left new_left (requests_of s.turns) s.requests (few_requests s.turns count s.counted few) moves; responses = appends_more o p q (texts_of s.turns) (response_text framing_response true) s.responses (told is); readings = s.readings }
-ends_by_refusal answers origin before after input left new_left o p q k m count cause s few moves told fault (inr is) =
-    rw is record { turns = s.turns; exchange = s.exchange; requests = begins_with input left (requests_of s.turns) s.requests; responses = front_more o p q (texts_of s.turns) (response_text framing_response true) s.responses (fault is); readings = s.readings }
+-- the last request was answered
+pub ends_by_limit : (answers : Answers) (origin : ℕ) (before after : List Entry) (input left : Option (List ℕ)) (outside : Outside) (count : ℕ) → SoFar answers origin before after input left outside count → count ≡ request_limit
+    → IsConversation answers origin before after input outside causes.Limit
+ends_by_limit answers origin before after input left outside count s full =
+    record { turns = s.turns; exchange = s.exchange; ends = (ends_limit input left (requests_of s.turns) s.requests (length-map s.turns (λ (t : Turn). t.request) ∙ s.counted ∙ full), s.responses); readings = s.readings }
+
+module _ (answers : Answers) (origin : ℕ) (before after : List Entry) (input left new_left : Option (List ℕ)) (outside : Outside) (count : ℕ) where
+  -- the input ends
+  pub ends_by_end : SoFar answers origin before after input left outside count → count < request_limit → Moves left new_left (Ok None) → IsConversation answers origin before after input outside causes.Ended
+  ends_by_end s few moves =
+      record { turns = s.turns; exchange = s.exchange; ends = (ends_ended input left new_left (requests_of s.turns) s.requests (few_requests s.turns count s.counted few) moves, s.responses); readings = s.readings }
+
+  -- the input ends inside a request
+  pub ends_by_cut : SoFar answers origin before after input left outside count → count < request_limit → Moves left new_left (Err stops.Cut) → IsConversation answers origin before after input outside causes.Cut
+  ends_by_cut s few moves =
+      record { turns = s.turns; exchange = s.exchange; ends = (ends_cut input left new_left (requests_of s.turns) s.requests (few_requests s.turns count s.counted few) moves, s.responses); readings = s.readings }
+
+  -- the input is rejected, and that was told, or the sink failed
+  pub ends_by_rejection : (output : Option (List ℕ)) (cause : Cause) → SoFar answers origin before after input left outside count → count < request_limit → Moves left new_left (Err stops.Bad)
+      → (cause ≡ causes.Rejected → Appends outside.new_output output rejection_text) → (cause ≡ causes.WriteFault → AppendsFront outside.new_output output rejection_text) → (cause ≡ causes.Rejected) ⊎ (cause ≡ causes.WriteFault)
+      → IsConversation answers origin before after input (record { old_output = outside.old_output; new_output = output; old_clock = outside.old_clock; new_clock = outside.new_clock }) cause
+  ends_by_rejection output cause s few moves told fault (inl is) =
+      let ended = ends_rejected input left new_left (requests_of s.turns) s.requests (few_requests s.turns count s.counted few) moves in
+      rw is record { turns = s.turns; exchange = s.exchange; ends = (ended, appends_more outside.old_output outside.new_output output (texts_of s.turns) rejection_text s.responses (told is)); readings = s.readings }
+  ends_by_rejection output cause s few moves told fault (inr is) =
+      let ended = ends_rejected input left new_left (requests_of s.turns) s.requests (few_requests s.turns count s.counted few) moves in
+      rw is record { turns = s.turns; exchange = s.exchange; ends = inr (record { requests = ended; written = into outside.old_output outside.new_output output (texts_of s.turns) rejection_text s.responses (fault is) }); readings = s.readings }

@@ -1,24 +1,45 @@
 -- The conversation: an exchange over the bytes of a source and a sink.
-use Rattle.std.specs.Prelude.{◌≡◌, ℕ, ◌+◌, ◌==◌, Option, Some, None, IfSome, List, [], ◌∷◌, ◌++◌, map, true, ⊤, Result, MatchResult}
+use Rattle.std.specs.Prelude.{◌≡◌, ◌⊎◌, ℕ, ◌+◌, ◌==◌, Option, Some, None, IfSome, List, [], ◌∷◌, ◌++◌, length, map, take, true, ⊤, Result, MatchResult}
 use Rattle.std.specs.Io.KnownBytes.{Appends}
 use Rattle.al_base.specs.Readings.{Readings, next_reading, after_reading}
 use Rattle.al_report.specs.declared.entry.Entry.{Entry}
 use Rattle.al_http.specs.Fronts.{AppendsFront}
 use Rattle.al_http.specs.Requests.{RequestMessage}
-use Rattle.al_http.specs.Responses.{response_text, framing_response}
-use Rattle.al_http.specs.Streams.{Cuts, IsWhole, request_limit, Ended as EndedStream, Limit as FullStream, Cut as CutStream, Rejected as RejectedStream}
-use Rattle.al_http.specs.declared.response.Response.{Response}
-use Rattle.alarmd.specs.Exchanges.{Turn, IsTurn, IsExchange}
+use Rattle.al_http.specs.Responses.{response_text, rejection_response}
+use Rattle.al_http.specs.Streams.{Cuts, IsWhole, request_limit}
+use Rattle.al_http.specs.Streams as endings
+use Rattle.alarmd.specs.Exchanges.{Answers, Turn, IsTurn, IsExchange}
 use Rattle.alarmd.specs.declared.conversation.Cause.{Cause}
 use Rattle.alarmd.specs.declared.conversation.Cause.TheVariants.{Ended, Limit, Cut, Rejected, ReadFault, WriteFault}
 
--- the responses' texts, the first being that of the request of this number; the last request that is answered is told to be the last
+-- The bytes of the output and the readings of the clock, before and after, where they are told.
+pub record Outside : Type 0 where
+  pub old_output : Option (List ℕ)
+  pub new_output : Option (List ℕ)
+  pub old_clock : Option Readings
+  pub new_clock : Option Readings
+
+abbrev pub requests_of : List Turn → List RequestMessage
+requests_of turns = map (λ turn. turn.request) turns
+
+abbrev pub readings_of : List Turn → List ℕ
+readings_of turns = map (λ turn. turn.reading) turns
+
+-- the text of the response to the request of this number; the last request that is answered is told to be the last
+abbrev pub text_of : ℕ → Turn → List ℕ
+text_of number turn = response_text turn.response (number == request_limit)
+
+-- the responses' texts, one after the other, the first being that of the request of this number
 abbrev pub texts_from : ℕ → List Turn → List ℕ
 texts_from number [] = []
-texts_from number (turn ∷ turns) = response_text turn.response (number == request_limit) ++ texts_from (number + 1) turns
+texts_from number (turn ∷ turns) = text_of number turn ++ texts_from (number + 1) turns
 
 abbrev pub texts_of : List Turn → List ℕ
 texts_of turns = texts_from 1 turns
+
+-- what tells that the input is rejected
+abbrev pub rejection_text : List ℕ
+rejection_text = response_text rejection_response true
 
 -- the clock gave these readings, one after the other
 abbrev pub Gave : Readings → List ℕ → Readings → Type 0
@@ -35,38 +56,44 @@ GaveKnown (Some old) readings (Some new) = Gave old readings new
 abbrev pub BeginsWith : Option (List ℕ) → List RequestMessage → Type 0
 BeginsWith input requests = IfSome input (λ bytes. (rest : List ℕ) × Cuts bytes requests rest)
 
--- the requests of the input, where it is told, up to an end of this cause
-abbrev pub EndsBy : Cause → Option (List ℕ) → List RequestMessage → Type 0
-EndsBy Ended input requests = IsWhole input requests EndedStream
-EndsBy Limit input requests = IsWhole input requests FullStream
-EndsBy Cut input requests = IsWhole input requests CutStream
-EndsBy Rejected input requests = IsWhole input requests RejectedStream
--- a fault came first: they are the first ones of the input
-EndsBy ReadFault input requests = BeginsWith input requests
-EndsBy WriteFault input requests = BeginsWith input requests
+-- the output, where it is told, grew by the first text, whole, and then by a front of the second
+abbrev pub AppendsInto : Option (List ℕ) → Option (List ℕ) → List ℕ → List ℕ → Type 0
+AppendsInto old new first second = (count : ℕ) × Appends old new (first ++ take count second)
 
--- what was written: the texts, the refusal of what is no request, and up to a fault of the sink a front of all this
-abbrev pub Writes : Cause → Option (List ℕ) → Option (List ℕ) → List ℕ → Type 0
-Writes Ended old new texts = Appends old new texts
-Writes Limit old new texts = Appends old new texts
-Writes Cut old new texts = Appends old new texts
-Writes Rejected old new texts = Appends old new (texts ++ response_text framing_response true)
-Writes ReadFault old new texts = Appends old new texts
-Writes WriteFault old new texts = AppendsFront old new (texts ++ response_text framing_response true)
+-- The sink failed in the last turn's response: those before it were written whole, and no turn came after it.
+pub record FailsInResponse (input old new : Option (List ℕ)) (turns : List Turn) : Type 0 where
+  pub earlier : List Turn
+  pub last : Turn
+  pub parts : turns ≡ earlier ++ last ∷ []
+  pub requests : BeginsWith input (requests_of turns)
+  pub written : AppendsInto old new (texts_of earlier) (text_of (length turns) last)
 
--- A conversation of one origin, from one history to another: its turns, with the input, the output and the readings where they are told.
-pub record IsConversation (answers : List Entry → ℕ → RequestMessage → ℕ → Response → List Entry → Type 0) (origin : ℕ) (before after : List Entry) (input old_output new_output : Option (List ℕ)) (old_clock new_clock : Option Readings) (cause : Cause) : Type 0 where
+-- The sink failed in telling that the input is rejected: all responses were written whole.
+pub record FailsInRejection (input old new : Option (List ℕ)) (turns : List Turn) : Type 0 where
+  pub requests : IsWhole input (requests_of turns) endings.Rejected
+  pub written : AppendsInto old new (texts_of turns) rejection_text
+
+-- The requests of the input and what was written, by the cause of the end: up to a fault the requests are first ones of the input.
+abbrev pub EndsBy : Cause → Option (List ℕ) → Option (List ℕ) → Option (List ℕ) → List Turn → Type 0
+EndsBy Ended input old new turns = IsWhole input (requests_of turns) endings.Ended × Appends old new (texts_of turns)
+EndsBy Limit input old new turns = IsWhole input (requests_of turns) endings.Limit × Appends old new (texts_of turns)
+EndsBy Cut input old new turns = IsWhole input (requests_of turns) endings.Cut × Appends old new (texts_of turns)
+EndsBy Rejected input old new turns = IsWhole input (requests_of turns) endings.Rejected × Appends old new (texts_of turns ++ rejection_text)
+EndsBy ReadFault input old new turns = BeginsWith input (requests_of turns) × Appends old new (texts_of turns)
+EndsBy WriteFault input old new turns = FailsInResponse input old new turns ⊎ FailsInRejection input old new turns
+
+-- A conversation of one origin over an input, from one history to another.
+pub record IsConversation (answers : Answers) (origin : ℕ) (before after : List Entry) (input : Option (List ℕ)) (outside : Outside) (cause : Cause) : Type 0 where
   pub turns : List Turn
   pub exchange : IsExchange answers origin before turns after
-  pub requests : EndsBy cause input (map (λ turn. turn.request) turns)
-  pub responses : Writes cause old_output new_output (texts_of turns)
-  pub readings : GaveKnown old_clock (map (λ turn. turn.reading) turns) new_clock
+  pub ends : EndsBy cause input outside.old_output outside.new_output turns
+  pub readings : GaveKnown outside.old_clock (readings_of turns) outside.new_clock
 
 -- One turn over a sink and a clock. A fault of the sink leaves a front of the response.
-pub record TakesTurn (answers : List Entry → ℕ → RequestMessage → ℕ → Response → List Entry → Type 0) (origin : ℕ) (before after : List Entry) (request : RequestMessage) (old_output new_output : Option (List ℕ)) (old_clock new_clock : Option Readings) (number : ℕ) {E : Type 0} (result : Result Unit E) : Type 0 where
+pub record TakesTurn (answers : Answers) (origin : ℕ) (before after : List Entry) (request : RequestMessage) (outside : Outside) (number : ℕ) {E : Type 0} (result : Result Unit E) : Type 0 where
   pub turn : Turn
   pub taken : IsTurn answers origin before turn
   pub grown : after ≡ before ++ turn.entries
   pub request_is : turn.request ≡ request
-  pub response : MatchResult result (λ _. Appends old_output new_output (response_text turn.response (number == request_limit))) (λ _. AppendsFront old_output new_output (response_text turn.response (number == request_limit)))
-  pub reading : GaveKnown old_clock (turn.reading ∷ []) new_clock
+  pub response : MatchResult result (λ _. Appends outside.old_output outside.new_output (text_of number turn)) (λ _. AppendsFront outside.old_output outside.new_output (text_of number turn))
+  pub reading : GaveKnown outside.old_clock (turn.reading ∷ []) outside.new_clock

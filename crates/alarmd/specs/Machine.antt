@@ -2,11 +2,12 @@
 use Rattle.std.specs.Prelude.{◌≡◌, ℕ, ◌≤◌, Some, None, true, false, List, [], ◌∷◌, ◌++◌, length, All, codes, decimal}
 use Rattle.al_report.specs.Decision.{decision_of, entry_of}
 use Rattle.al_report.specs.History.{replay}
+use Rattle.al_report.specs.Refusals.{refusal_number}
 use Rattle.al_report.specs.declared.decision.Decision.{Decision}
 use Rattle.al_report.specs.declared.decision.Decision.TheVariants.{Refuse, Same, Change}
-use Rattle.al_report.specs.declared.decision.Refusal.TheVariants.{ClockEnd, Memory}
 use Rattle.al_report.specs.declared.entry.Entry.{Entry}
 use Rattle.al_report.specs.declared.request.Request.{Request}
+use Rattle.al_http.specs.ErrorRows.{no_such_path, bad_value}
 use Rattle.al_http.specs.Requests.{RequestMessage, path_of, query_of}
 use Rattle.al_http.specs.Responses.{refusal, bodiless}
 use Rattle.al_http.specs.declared.response.Content.TheVariants.{Tree}
@@ -44,16 +45,6 @@ without_body response =
       bare = true;
     }
 
--- error rows by their numbers
-abbrev pub no_such_path : ℕ
-no_such_path = 5
-
-abbrev pub bad_value : ℕ
-bad_value = 15
-
-abbrev pub clock_at_its_end : ℕ
-clock_at_its_end = 26
-
 -- the refusal of a path; a response to HEAD leaves the body out (RFC 9110, section 9.3.2)
 pub record RefusesPath (request : RequestMessage) (place : ℕ) (response : Response) : Type 0 where
   pub head : request.method ≡ codes "HEAD" → response ≡ without_body (refusal no_such_path (Some place))
@@ -61,8 +52,7 @@ pub record RefusesPath (request : RequestMessage) (place : ℕ) (response : Resp
 
 -- what a decision on a report answers over a history, and the entries that it adds: just the one of a change
 abbrev pub Carries : Decision → List Entry → ℕ → ℕ → Response → List Entry → Type 0
-Carries (Refuse ClockEnd) before origin reading response entries = (response ≡ refusal clock_at_its_end (Some (length before))) × (entries ≡ [])
-Carries (Refuse Memory) before origin reading response entries = ⊥
+Carries (Refuse reason) before origin reading response entries = (response ≡ refusal (refusal_number reason) (Some (length before))) × (entries ≡ [])
 Carries (Same reply) before origin reading response entries = (response ≡ bodiless 204 (Some (length before))) × (entries ≡ [])
 Carries (Change event reply) before origin reading response entries = (response ≡ bodiless 204 (Some (length before))) × (entries ≡ entry_of (replay before) origin event reading ∷ [])
 

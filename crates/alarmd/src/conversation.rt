@@ -4,18 +4,15 @@ ghost use Rattle.std.specs.Prelude.{◌≡◌, ◌≤◌, ◌+◌, ◌⊎◌, tr
 ghost use Rattle.std.specs.Io.KnownBytes.{Appends};
 ghost use Rattle.al_base.specs.Outside.{Rose};
 ghost use Rattle.al_http.specs.Fronts.{AppendsFront};
-ghost use Rattle.al_http.specs.Responses.{HasText, response_text, framing_response};
+ghost use Rattle.al_http.specs.Responses.{HasText};
 ghost use Rattle.al_http.specs.Shown.{message_of};
-ghost use Rattle.alarmd.specs.Conversations.{IsConversation, TakesTurn};
+ghost use Rattle.alarmd.specs.Conversations.{IsConversation, TakesTurn, rejection_text};
 ghost use Rattle.alarmd.specs.Exchanges.{GivesTurn};
 
 use crate::service::Service;
 use al_base::{Clock, Sink, Source, Stamp, WriteFault};
-use al_http::{Framer, HttpRequest, Response, Stop, respond};
+use al_http::{Framer, HttpRequest, REQUEST_LIMIT, Response, Stop, respond};
 use al_report::Kept;
-
-/// The most requests of a conversation.
-const REQUEST_LIMIT: u64 = 1_000_000;
 
 /// Why a conversation ended.
 #[derive(Clone, Copy, Debug, PartialEq, Eq)]
@@ -26,7 +23,7 @@ pub enum Cause {
     Limit,
     /// The input ended inside a request.
     Cut,
-    /// The input was no request, which was told.
+    /// The input was rejected, which was told.
     Rejected,
     /// The source failed.
     ReadFault,
@@ -44,7 +41,8 @@ pub fn converse<T: Kept, V: Service<T>, S: Source, O: Sink, K: Clock>(
     sink: &mut O,
     clock: &mut K,
 ) -> Cause
-    ensures conversation { IsConversation (V.answers service.old) origin (T.list kept.old) (T.list kept.new) (S.left source.old) (O.held sink.old) (O.held sink.new) (K.readings clock.old) (K.readings clock.new) result }
+    ensures conversation { IsConversation (V.answers service.old) origin (T.list kept.old) (T.list kept.new) (S.left source.old)
+        (record { old_output = O.held sink.old; new_output = O.held sink.new; old_clock = K.readings clock.old; new_clock = K.readings clock.new }) result }
     ensures read_fault { result ≡ Cause.ReadFault → Rose (S.faults source.old) (S.faults source.new) }
     ensures write_fault { result ≡ Cause.WriteFault → Rose (O.faults sink.old) (O.faults sink.new) }
     ensures later_source { S.faults source.old ≤ S.faults source.new }
@@ -78,7 +76,8 @@ fn take_turn<T: Kept, V: Service<T>, O: Sink, K: Clock>(
     clock: &mut K,
     number: u64,
 ) -> Result<(), WriteFault>
-    ensures turn { TakesTurn (V.answers service.old) origin (T.list kept.old) (T.list kept.new) (message_of request.now) (O.held sink.old) (O.held sink.new) (K.readings clock.old) (K.readings clock.new) number result }
+    ensures turn { TakesTurn (V.answers service.old) origin (T.list kept.old) (T.list kept.new) (message_of request.now)
+        (record { old_output = O.held sink.old; new_output = O.held sink.new; old_clock = K.readings clock.old; new_clock = K.readings clock.new }) number result }
     ensures same { service.new ≡ service.old }
     ensures later { O.faults sink.old ≤ O.faults sink.new }
     ensures cause { OnErr result (Rose (O.faults sink.old) (O.faults sink.new)) }
@@ -100,6 +99,8 @@ fn answer<T: Kept, V: Service<T>>(
     ensures text { HasText result }
     ensures same { service.new ≡ service.old }
 {
+    // Its clause says that no reading is past the last stamp, as the turn does.
+    let _ = now.ms();
     let place = kept.entries();
     match service.answer(kept, origin, request, now) {
         Ok(response) => response,
@@ -107,15 +108,15 @@ fn answer<T: Kept, V: Service<T>>(
     }
 }
 
-/// Tells that the input is no request.
+/// Tells that the input is rejected.
 fn reject<O: Sink>(sink: &mut O) -> Cause
-    ensures rejected { result ≡ Cause.Rejected → Appends (O.held sink.old) (O.held sink.new) (response_text framing_response true) }
-    ensures fault { result ≡ Cause.WriteFault → AppendsFront (O.held sink.old) (O.held sink.new) (response_text framing_response true) }
+    ensures rejected { result ≡ Cause.Rejected → Appends (O.held sink.old) (O.held sink.new) rejection_text }
+    ensures fault { result ≡ Cause.WriteFault → AppendsFront (O.held sink.old) (O.held sink.new) rejection_text }
     ensures one_of { (result ≡ Cause.Rejected) ⊎ (result ≡ Cause.WriteFault) }
     ensures later { O.faults sink.old ≤ O.faults sink.new }
     ensures cause { result ≡ Cause.WriteFault → Rose (O.faults sink.old) (O.faults sink.new) }
 {
-    match respond(sink, &Response::of_framing(), true) {
+    match respond(sink, &Response::of_rejection(), true) {
         Ok(()) => Cause::Rejected,
         Err(_) => Cause::WriteFault,
     }

@@ -11,20 +11,11 @@ ghost use Rattle.alarmd.specs.Machine.{AsksCount, BringsReport, AnswersReport, I
 use crate::report::{ReportFault, read_report};
 use crate::service::Service;
 use al_base::{List, Stamp};
-use al_http::{Content, HttpRequest, Response};
+use al_http::{BAD_VALUE, Content, HttpRequest, NO_SUCH_PATH, Response};
 use al_office::Office;
 use al_report::{Kept, Refusal};
 use itoa::Buffer as Digits;
 use std::alloc::{AllocError, Global};
-
-/// The number of the refusal `no such path`.
-const NO_SUCH_PATH: u8 = 5;
-
-/// The number of the refusal `bad value`.
-const BAD_VALUE: u8 = 15;
-
-/// The number of the refusal `clock at its end`.
-const CLOCK_AT_ITS_END: u8 = 26;
 
 /// The method that asks for no body.
 const HEAD: &[u8] = b"HEAD";
@@ -141,7 +132,7 @@ fn take_report(
     };
     match office.change(origin, report, now) {
         Ok(_) => Ok(Response::bodiless(204, place)),
-        Err(Refusal::ClockEnd) => Ok(Response::of_row(CLOCK_AT_ITS_END, place)),
+        Err(Refusal::ClockEnd) => Ok(Response::of_row(Refusal::ClockEnd.number(), place)),
         Err(Refusal::Memory) => Err(AllocError),
     }
 }

@@ -2,7 +2,7 @@
 
 ghost use Rattle.std.specs.Prelude.{◌≡◌, ◌≢◌, ◌≤◌, ◌⊎◌};
 ghost use Rattle.al_base.specs.Outside.{Rose};
-ghost use Rattle.alarmd.specs.Sessions.{HasConversed, HasNotBegun, TellsUsage, status_of};
+ghost use Rattle.alarmd.specs.Sessions.{HasConversed, HasNotBegun, TellsUsage, status_of, status_read_fault, status_write_fault};
 ghost use Rattle.alarmd.specs.Words.{IsSession};
 
 use crate::command::Command;
@@ -28,7 +28,7 @@ pub const OUT_OF_MEMORY: u8 = 8;
 /// The input ended inside a request.
 const CUT: u8 = 9;
 
-/// The input was no request.
+/// The input was rejected.
 const REJECTED: u8 = 10;
 
 /// The origin of the entries of a session.
@@ -46,10 +46,10 @@ pub fn run<S: Source, O: Sink, K: Clock>(
     clock: &mut K,
 ) -> u8
     ensures session { IsSession words.now → HasNotBegun source.old source.new sink.old sink.new clock.old clock.new result
-        ⊎ HasConversed (S.left source.old) (O.held sink.old) (O.held sink.new) (K.readings clock.old) (K.readings clock.new) result }
+        ⊎ HasConversed (S.left source.old) (record { old_output = O.held sink.old; new_output = O.held sink.new; old_clock = K.readings clock.old; new_clock = K.readings clock.new }) result }
     ensures usage { ¬ (IsSession words.now) → TellsUsage (O.held sink.old) (O.held sink.new) result × (source.new ≡ source.old) × (clock.new ≡ clock.old) }
-    ensures read_fault { result ≡ 6 → Rose (S.faults source.old) (S.faults source.new) }
-    ensures write_fault { result ≡ 7 → Rose (O.faults sink.old) (O.faults sink.new) }
+    ensures read_fault { result ≡ status_read_fault → Rose (S.faults source.old) (S.faults source.new) }
+    ensures write_fault { result ≡ status_write_fault → Rose (O.faults sink.old) (O.faults sink.new) }
     ensures later_source { S.faults source.old ≤ S.faults source.new }
     ensures later_sink { O.faults sink.old ≤ O.faults sink.new }
 {
@@ -67,9 +67,9 @@ fn run_session<S: Source, O: Sink, K: Clock>(
     clock: &mut K,
 ) -> u8
     ensures session { HasNotBegun source.old source.new sink.old sink.new clock.old clock.new result
-        ⊎ HasConversed (S.left source.old) (O.held sink.old) (O.held sink.new) (K.readings clock.old) (K.readings clock.new) result }
-    ensures read_fault { result ≡ 6 → Rose (S.faults source.old) (S.faults source.new) }
-    ensures write_fault { result ≡ 7 → Rose (O.faults sink.old) (O.faults sink.new) }
+        ⊎ HasConversed (S.left source.old) (record { old_output = O.held sink.old; new_output = O.held sink.new; old_clock = K.readings clock.old; new_clock = K.readings clock.new }) result }
+    ensures read_fault { result ≡ status_read_fault → Rose (S.faults source.old) (S.faults source.new) }
+    ensures write_fault { result ≡ status_write_fault → Rose (O.faults sink.old) (O.faults sink.new) }
     ensures later_source { S.faults source.old ≤ S.faults source.new }
     ensures later_sink { O.faults sink.old ≤ O.faults sink.new }
 {
@@ -80,7 +80,7 @@ fn run_session<S: Source, O: Sink, K: Clock>(
         return OUT_OF_MEMORY;
     };
     let mut machine = Machine::new(alloc);
-    status(converse(
+    let cause = converse(
         &mut office,
         &mut machine,
         &mut framer,
@@ -88,13 +88,15 @@ fn run_session<S: Source, O: Sink, K: Clock>(
         source,
         sink,
         clock,
-    ))
+    );
+    office.history_is_legal();
+    status(cause)
 }
 
 fn refuse_words<O: Sink>(sink: &mut O) -> u8
     ensures usage { TellsUsage (O.held sink.old) (O.held sink.new) result }
-    ensures write_fault { result ≡ 7 → Rose (O.faults sink.old) (O.faults sink.new) }
-    ensures other { result ≢ 6 }
+    ensures write_fault { result ≡ status_write_fault → Rose (O.faults sink.old) (O.faults sink.new) }
+    ensures other { result ≢ status_read_fault }
     ensures later { O.faults sink.old ≤ O.faults sink.new }
 {
     match write_all(sink, USAGE) {

@@ -5,16 +5,13 @@ use std::alloc::AllocError;
 
 /// What answers requests over a history.
 pub trait Service<T: Kept>: Drop {
-    ghost use Rattle.std.specs.Prelude.{◌≡◌, ℕ, Some, List, length, IfOk, OnErr};
-    ghost use Rattle.al_report.specs.declared.entry.Entry.{Entry};
-    ghost use Rattle.al_http.specs.Requests.{RequestMessage};
+    ghost use Rattle.std.specs.Prelude.{◌≡◌, Some, length, IfOk, OnErr};
     ghost use Rattle.al_http.specs.Responses.{HasText};
     ghost use Rattle.al_http.specs.Shown.{message_of};
-    ghost use Rattle.al_http.specs.declared.response.Response.{Response};
-    ghost use Rattle.alarmd.specs.Exchanges.{Answered};
+    ghost use Rattle.alarmd.specs.Exchanges.{Answers, Answered};
 
-    /// Over a history, a request of an origin at a reading of the clock may have this response and add these entries.
-    ghost answers: { Self → List Entry → ℕ → RequestMessage → ℕ → Response → List Entry → Type 0 };
+    /// What the service may answer.
+    ghost answers: { Self → Answers };
 
     /// Answers a request. Where there is no memory for it nothing has changed.
     fn answer(

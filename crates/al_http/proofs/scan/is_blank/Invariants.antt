@@ -1,5 +1,5 @@
 use Rattle.std.proofs.Common.{◌≡◌, false, drop}
-use Rattle.al_http.specs.Blocks.{are_line_ends}
+use Rattle.al_http.specs.Scans.{are_line_ends}
 use Rattle.al_http.proofs.scan.is_blank.Given as goal
 
 abbrev pub invariant-loop-byte : goal.invariant-loop-byte

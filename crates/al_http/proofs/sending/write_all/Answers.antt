@@ -1,7 +1,8 @@
 use Rattle.std.proofs.Common.{arith}
 use Rattle.std.proofs.lemmas.List.{length-drop}
 use Rattle.std.proofs.Math.Seq.{take-add}
-use Rattle.al_http.proofs.FrontLemmas.{appends_more, rest_behind}
+use Rattle.al_http.proofs.FrontLaws.{appends_more}
+use Rattle.al_http.proofs.FrontLemmas.{rest_behind}
 use Rattle.al_http.proofs.sending.write_all.Goals as goal
 
 pub loop-taken-preserved : goal.loop-taken-preserved

@@ -4,8 +4,11 @@ use Rattle.alarmd.proofs.Turning.{SoFar}
 use Rattle.alarmd.proofs.conversation.converse.Given as goal
 
 abbrev pub invariant-loop-served : goal.invariant-loop-served
-invariant-loop-served g l =
-    SoFar (g.V.Service.answers l.fn.service) l.fn.origin (g.T.Kept.list l.fn.kept) (g.T.Kept.list l.kept) (g.S.Source.left l.fn.source) (stream_of l.framer (g.S.Source.left l.source)) (g.O.Sink.held l.fn.sink) (g.O.Sink.held l.sink) (g.K.Clock.readings l.fn.clock) (g.K.Clock.readings l.clock) l.served
-    × (l.service ≡ l.fn.service)
-    × (g.S.Source.faults l.fn.source ≤ g.S.Source.faults l.source)
-    × (g.O.Sink.faults l.fn.sink ≤ g.O.Sink.faults l.sink)
+invariant-loop-served g l = record {
+  so_far : SoFar (g.V.Service.answers l.fn.service) l.fn.origin (g.T.Kept.list l.fn.kept) (g.T.Kept.list l.kept) (g.S.Source.left l.fn.source) (stream_of l.framer (g.S.Source.left l.source))
+      (record { old_output = g.O.Sink.held l.fn.sink; new_output = g.O.Sink.held l.sink; old_clock = g.K.Clock.readings l.fn.clock; new_clock = g.K.Clock.readings l.clock })
+      l.served;
+  same : l.service ≡ l.fn.service;
+  later_source : g.S.Source.faults l.fn.source ≤ g.S.Source.faults l.source;
+  later_sink : g.O.Sink.faults l.fn.sink ≤ g.O.Sink.faults l.sink;
+}

@@ -1,8 +1,8 @@
-//! The buffer of a framer.
+//! The buffer of a framer: what it has read and not yet given.
 
 ghost use Rattle.std.specs.Prelude.{◌≡◌, ◌+◌, ◌-◌, ◌<◌, ◌≤◌, [], length, take, drop, slice_range, vec_len, min, if◌then◌else◌, IfOk, OnErr, IfSome, IfNone, Ok, Err, None, true, false};
-ghost use Rattle.al_http.specs.Blocks.{are_line_ends};
-ghost use Rattle.al_http.specs.Requests.{head_limit};
+ghost use Rattle.al_http.specs.Requests.{head_limit, field_limit, request_room};
+ghost use Rattle.al_http.specs.Scans.{are_line_ends};
 ghost use Rattle.std.specs.Io.KnownBytes.{Keeps, Consumes};
 ghost use Rattle.al_base.specs.Outside.{Rose, TellsEnd};
 
@@ -27,38 +27,38 @@ const ROOM: usize = MAX_HEAD + MAX_BODY;
 ///
 /// They are moved to the front only before a read, and then they are part of one request, so each byte is moved once at most.
 #[derive(Drop)]
-pub(crate) struct Desk {
+pub(crate) struct InputBuffer {
     bytes: Vec<u8>,
     spans: Vec<HeaderSpan>,
     start: usize,
     filled: usize,
-    ghost room: { vec_len bytes ≡ 1064960 },
-    ghost places: { vec_len spans ≡ 64 },
+    ghost room: { vec_len bytes ≡ request_room },
+    ghost span_room: { vec_len spans ≡ field_limit },
     ghost ordered: { start ≤ filled },
-    ghost within: { filled ≤ 1064960 },
+    ghost within: { filled ≤ request_room },
 }
 
-/// Where a request lies on a desk: its head up to `body`, its body up to `end`.
+/// Where a request lies in a buffer: its head up to `body`, its body up to `end`.
 #[derive(Clone, Copy)]
-pub(crate) struct Place {
+pub(crate) struct Extent {
     start: usize,
     body: usize,
     end: usize,
     head: RequestSpans,
 }
 
-impl Desk {
+impl InputBuffer {
     ghost use Rattle.httparse.specs.Spans.{IsRequestWithin};
     ghost use Rattle.al_http.specs.Blocks.{IsBlock};
-    ghost use Rattle.al_http.specs.Heads.{ReadsHead, RefusesBlock};
+    ghost use Rattle.al_http.specs.Heads.{ReadsHead, RejectsBlock};
     ghost use Rattle.al_http.specs.Moves.{stream_of, IsAll};
     ghost use Rattle.al_http.specs.Shown.{message_at, message_of};
-    ghost use Rattle.al_http.specs.Desks.{held_bytes, message_on, IsPlaceOn, Finds, Takes, Serves};
+    ghost use Rattle.al_http.specs.InputBuffers.{held_bytes, message_on, IsExtentOn, Finds, Takes, Serves};
 
-    pub(crate) fn new(alloc: Global) -> Result<Desk, AllocError>
-        ensures { IfOk result (λ desk. held_bytes desk ≡ []) }
+    pub(crate) fn new(alloc: Global) -> Result<InputBuffer, AllocError>
+        ensures { IfOk result (λ buffer. held_bytes buffer ≡ []) }
     {
-        Ok(Desk {
+        Ok(InputBuffer {
             bytes: vec![in alloc; 0; ROOM]?,
             spans: vec![in alloc; EMPTY_HEADER_SPAN; MAX_FIELDS]?,
             start: 0,
@@ -100,7 +100,7 @@ impl Desk {
 
     /// Reads once; whether there was more.
     fn read_more<S: Source>(&mut self, source: &mut S) -> Result<bool, ReadFault>
-        requires room { length (held_bytes self.old) < 1064960 }
+        requires room { length (held_bytes self.old) < request_room }
         ensures kept { take (length (held_bytes self.old)) (held_bytes self.new) ≡ held_bytes self.old }
         ensures spans { self.new.spans ≡ self.old.spans }
         ensures stream { Keeps (stream_of (held_bytes self.old) (S.left source.old)) (stream_of (held_bytes self.new) (S.left source.new)) }
@@ -121,7 +121,7 @@ impl Desk {
 
     /// Reads until so many bytes are held; whether they are.
     fn read_up_to<S: Source>(&mut self, need: usize, source: &mut S) -> Result<bool, ReadFault>
-        requires room { need ≤ 1064960 }
+        requires room { need ≤ request_room }
         ensures kept { take (length (held_bytes self.old)) (held_bytes self.new) ≡ held_bytes self.old }
         ensures spans { self.new.spans ≡ self.old.spans }
         ensures stream { Keeps (stream_of (held_bytes self.old) (S.left source.old)) (stream_of (held_bytes self.new) (S.left source.new)) }
@@ -175,9 +175,9 @@ impl Desk {
     }
 
     /// Takes the request whose block is held.
-    fn take_block<S: Source>(&mut self, len: usize, source: &mut S) -> Result<Place, Stop>
+    fn take_block<S: Source>(&mut self, len: usize, source: &mut S) -> Result<Extent, Stop>
         requires within { len ≤ length (held_bytes self.old) }
-        requires short { len ≤ 16384 }
+        requires short { len ≤ head_limit }
         requires is_block { IsBlock (take len (held_bytes self.old)) }
         ensures takes { Takes self.new (stream_of (held_bytes self.old) (S.left source.old)) (stream_of (held_bytes self.new) (S.left source.new)) result }
         ensures later { S.faults source.old ≤ S.faults source.new }
@@ -196,44 +196,44 @@ impl Desk {
     /// Reads the head that the block of that length is, and the length of its body.
     fn read_block(&mut self, len: usize) -> Option<(RequestSpans, usize)>
         requires within { len ≤ length (held_bytes self.old) }
-        requires short { len ≤ 16384 }
+        requires short { len ≤ head_limit }
         requires is_block { IsBlock (take len (held_bytes self.old)) }
         ensures held { held_bytes self.new ≡ held_bytes self.old }
         ensures reads { IfSome result (λ found. ReadsHead (take len (held_bytes self.old)) self.new.spans.items found.0 found.1) }
-        ensures refuses { IfNone result (RefusesBlock (take len (held_bytes self.old))) }
+        ensures refuses { IfNone result (RejectsBlock (take len (held_bytes self.old))) }
     {
         let block = &self.bytes[self.start..self.start + len];
         read_head(block, &mut self.spans)
     }
 
     /// Gives the request at the front, which stays where it is until the next read.
-    fn give(&mut self, head: RequestSpans, size: usize) -> Place
+    fn give(&mut self, head: RequestSpans, size: usize) -> Extent
         requires fits { head.len + size ≤ length (held_bytes self.old) }
         requires within { IsRequestWithin (take head.len (held_bytes self.old)) self.old.spans.items head }
         ensures held { held_bytes self.new ≡ drop (head.len + size) (held_bytes self.old) }
-        ensures place { IsPlaceOn self.new result }
+        ensures extent { IsExtentOn self.new result }
         ensures message { message_on self.new result ≡ message_at (take head.len (held_bytes self.old)) (take head.headers self.old.spans.items) head (take size (drop head.len (held_bytes self.old))) }
     {
         let body = self.start + head.len;
-        let place = Place {
+        let extent = Extent {
             start: self.start,
             body,
             end: body + size,
             head,
         };
-        self.start = place.end;
-        place
+        self.start = extent.end;
+        extent
     }
 
     /// Takes the next request off the stream.
-    pub(crate) fn take_request<S: Source>(&mut self, source: &mut S) -> Result<Option<Place>, Stop>
+    pub(crate) fn take_request<S: Source>(&mut self, source: &mut S) -> Result<Option<Extent>, Stop>
         ensures serves { Serves self.new (stream_of (held_bytes self.old) (S.left source.old)) (stream_of (held_bytes self.new) (S.left source.new)) result }
         ensures later { S.faults source.old ≤ S.faults source.new }
         ensures cause { result ≡ Err Stop.ReadFault → Rose (S.faults source.old) (S.faults source.new) }
     {
         match self.find_block(source) {
             Ok(Some(len)) => match self.take_block(len, source) {
-                Ok(place) => Ok(Some(place)),
+                Ok(extent) => Ok(Some(extent)),
                 Err(stop) => Err(stop),
             },
             Ok(None) => Ok(None),
@@ -241,16 +241,16 @@ impl Desk {
         }
     }
 
-    /// The request at that place.
-    pub(crate) fn request_at(&self, place: Place) -> HttpRequest<'_>
-        requires { IsPlaceOn self.now place }
-        ensures { message_of result ≡ message_on self.now place }
+    /// The request of that extent.
+    pub(crate) fn request_at(&self, extent: Extent) -> HttpRequest<'_>
+        requires { IsExtentOn self.now extent }
+        ensures { message_of result ≡ message_on self.now extent }
     {
         HttpRequest::of(
-            &self.bytes[place.start..place.body],
-            &self.spans[..place.head.headers],
-            place.head,
-            &self.bytes[place.body..place.end],
+            &self.bytes[extent.start..extent.body],
+            &self.spans[..extent.head.headers],
+            extent.head,
+            &self.bytes[extent.body..extent.end],
         )
     }
 }

@@ -5,9 +5,9 @@ use Rattle.std.specs.Prelude.{slice_range}
 use Rattle.std.proofs.lemmas.Bool.{ltb-false}
 use Rattle.std.proofs.lemmas.List.{with_items_is}
 use Rattle.al_http.specs.Moves.{stream_of}
-use Rattle.al_http.specs.Desks.{held_bytes}
+use Rattle.al_http.specs.InputBuffers.{held_bytes}
 use Rattle.al_http.proofs.StreamLemmas.{read_on, same_left, held_grown, held_same, at_end}
-use Rattle.al_http.proofs.desk.Desk.read_more.Goals as goal
+use Rattle.al_http.proofs.input_buffer.InputBuffer.read_more.Goals as goal
 
 pub returns-in-Ok-clause-stream : goal.returns-in-Ok-clause-stream
 returns-in-Ok-clause-stream g c =

@@ -1,15 +1,15 @@
 use Rattle.std.proofs.Common.{◌+◌, ◌≤◌, length}
-use Rattle.al_http.specs.Requests.{IsBad, IsCut}
-use Rattle.al_http.specs.Desks.{held_bytes}
+use Rattle.al_http.specs.Requests.{IsRejected, IsCut}
+use Rattle.al_http.specs.InputBuffers.{held_bytes}
 use Rattle.al_http.proofs.StreamLemmas.{keeps_same, stream_all, all_has, takes_kept}
-use Rattle.al_http.proofs.RequestLemmas.{first_request, bad_block, cut_body}
-use Rattle.al_http.proofs.desk.Desk.take_block.Goals as goal
+use Rattle.al_http.proofs.RequestLemmas.{first_request, rejected_block, cut_body}
+use Rattle.al_http.proofs.input_buffer.InputBuffer.take_block.Goals as goal
 
 pub returns-in_default-clause-takes : goal.returns-in_default-clause-takes
 returns-in_default-clause-takes g c =
     let held = held_bytes c.args.self.now in (
       rw c.read_block.ensures.held (keeps_same _),
-      stream_all IsBad held _ (λ more. bad_block held more c.args.len c.requires.is_block c.in_default.ensures.refuses),
+      stream_all IsRejected held _ (λ more. rejected_block held more c.args.len c.requires.is_block c.in_default.ensures.refuses),
     )
 
 pub returns-in-Ok-true-clause-takes : goal.returns-in-Ok-true-clause-takes
@@ -19,7 +19,7 @@ returns-in-Ok-true-clause-takes g c =
     let kept = rw c.read_block.ensures.held at c.read_up_to.ensures.kept in
     let stream = rw c.read_block.ensures.held at c.read_up_to.ensures.stream in
     let full : c.args.len + c.in-Some.size ≤ length more = c.read_up_to.ensures.full (cc) in (
-      c.give.ensures.place,
+      c.give.ensures.extent,
       rw (c.give.ensures.held, c.give.ensures.message, c.read_up_to.ensures.spans) (takes_kept _ more _ _ _ stream
           (λ rest. first_request held more rest c.args.len c.in-Some.size _ c.in-Some.head c.in-Some.ensures.reads c.requires.within kept full)),
     )

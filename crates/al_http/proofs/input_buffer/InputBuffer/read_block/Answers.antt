@@ -2,7 +2,7 @@ use Rattle.std.proofs.Common.{◌≡◌, ℕ, ◌+◌, ◌≤◌, ◌∙◌, Lis
 use Rattle.std.specs.Prelude.{slice_range}
 use Rattle.std.proofs.lemmas.List.{with_items_is}
 use Rattle.al_http.proofs.StreamLemmas.{front_part}
-use Rattle.al_http.proofs.desk.Desk.read_block.Goals as goal
+use Rattle.al_http.proofs.input_buffer.InputBuffer.read_block.Goals as goal
 
 -- the block at the front of the bytes held
 block_at : (items bytes : List ℕ) (start filled len : ℕ) → items ≡ bytes → len ≤ length (slice_range bytes start filled)
@@ -15,9 +15,9 @@ read_head-requires-clause-is_block c =
 
 pub returns-clause-reads : goal.returns-clause-reads
 returns-clause-reads c =
-    let desk = c.args.self.now in
-    rw (with_items_is desk.spans c.read_head.new.spans (c.read_head.auto.spans ∙ c.deref_mut.ensures.len))
-    (rw (block_at _ _ desk.start _ c.args.len c.deref.ensures.value c.requires.within) at c.read_head.ensures.reads)
+    let buffer = c.args.self.now in
+    rw (with_items_is buffer.spans c.read_head.new.spans (c.read_head.auto.spans ∙ c.deref_mut.ensures.len))
+    (rw (block_at _ _ buffer.start _ c.args.len c.deref.ensures.value c.requires.within) at c.read_head.ensures.reads)
 
 pub returns-clause-refuses : goal.returns-clause-refuses
 returns-clause-refuses c =
