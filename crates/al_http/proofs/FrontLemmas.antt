@@ -12,13 +12,6 @@ appends_none None b same = tt
 appends_none (Some old) None same = absurd same
 appends_none (Some old) (Some new) same = same ∙ sym (append-nil old)
 
-pub front_none : (a b : Option (List ℕ)) (xs : List ℕ) → Keeps a b → AppendsFront a b xs
-front_none a b xs same = (0, appends_none a b same)
-
--- a whole text is a front of a longer one
-pub front_whole : (a b : Option (List ℕ)) (xs ys : List ℕ) → Appends a b xs → AppendsFront a b (xs ++ ys)
-front_whole a b xs ys whole = (length xs, rw (take-append_seam xs ys) whole)
-
 min_at_most : (n m : ℕ) → min n m ≤ m
 min_at_most n m = omega arith
 
@@ -30,10 +23,6 @@ take_front n xs ys =
 pub front_longer : (a b : Option (List ℕ)) (xs ys : List ℕ) → AppendsFront a b xs → AppendsFront a b (xs ++ ys)
 front_longer a b xs ys (count, front) = (min count (length xs), rw (take_front count xs ys) front)
 
--- a count that rose later rose
-pub rose_later : (before mid after : ℕ) → before ≤ mid → mid ≤ after → Rose mid after → Rose before after
-rose_later before mid after low later rose small = grind arith
-
 -- what is left behind an index
 pub rest_behind : (n : ℕ) (xs : List ℕ) → take (length xs - n) (drop n xs) ≡ drop n xs
 rest_behind n xs = ap (λ (k : ℕ). take k (drop n xs)) (sym (length-drop n xs)) ∙ take-length (drop n xs)
@@ -41,10 +30,6 @@ rest_behind n xs = ap (λ (k : ℕ). take k (drop n xs)) (sym (length-drop n xs)
 pub gathers_same : (a : Option (List ℕ)) (waiting : List ℕ) → Gathers a a waiting waiting []
 gathers_same None waiting = ([], tt, append-nil waiting)
 gathers_same (Some known) waiting = ([], sym (append-nil known), append-nil waiting)
-
--- all that waited was sent
-pub gathers_sent : (a b : Option (List ℕ)) (waiting empty : List ℕ) → Appends a b waiting → empty ≡ [] → Gathers a b waiting empty []
-gathers_sent a b waiting empty sent none = (waiting, sent, rw none refl)
 
 pub gathers_more : (a b c : Option (List ℕ)) (first second third xs ys : List ℕ)
     → Gathers a b first second xs → Gathers b c second third ys → Gathers a c first third (xs ++ ys)

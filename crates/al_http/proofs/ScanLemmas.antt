@@ -66,13 +66,6 @@ last_bytes xs b y z ends =
     let at = same_from_push xs (ends.front ++ y ∷ []) b z (ends.parts ∙ sym (append_assoc ends.front _ _)) in
     (at.1, record { front = ends.front; parts = at.0; some_line = ends.some_line })
 
--- the text seen has a byte of a line, if anything was seen
-seen_line : (seen : Seen) (xs : List ℕ) → Shows seen xs → list_any is_line_byte xs ≡ false → seen ≡ Nothing
-seen_line Nothing xs shows none = refl
-seen_line Text xs shows none = cc (shows.0)
-seen_line LineFeed xs shows none = cc (line_before xs _ shows)
-seen_line Return xs shows none = cc (line_before xs _ shows)
-
 pub after_nothing : (xs : List ℕ) (b : ℕ) → is_line_byte b ≡ false → IsAfter Nothing xs → IsAfter Nothing (xs ++ b ∷ [])
 after_nothing xs b blank seen = record {
   no_block = no_block_more xs b seen.no_block (λ ends. elim (ends_apart xs b ends).1 [

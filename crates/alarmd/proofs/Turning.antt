@@ -19,17 +19,6 @@ use Rattle.al_report.specs.declared.entry.Entry.{Entry}
 use Rattle.alarmd.specs.Exchanges.{Answers, Turn, IsTurn, IsExchange}
 use Rattle.alarmd.specs.Conversations.{Outside, requests_of, readings_of, text_of, texts_from, texts_of, rejection_text, Gave, GaveKnown, BeginsWith, AppendsInto, IsConversation, TakesTurn}
 
--- what stands of each outcome stands of the outcome
-pub match_both : {T E : Type 0} (P Q : Type 0) (r : Result T E) → OnOk r P → OnErr r Q → MatchResult r (λ _. P) (λ _. Q)
-match_both P Q (Ok x) p q = p
-match_both P Q (Err e) p q = q
-
--- one reading
-pub gave_one : (old new : Option Readings) (reading now : ℕ) → reading ≡ now → IfSome old (λ ahead. now ≡ next_reading ahead) → new ≡ option_map after_reading old → GaveKnown old (reading ∷ []) new
-gave_one None new reading now same is after = tt
-gave_one (Some old) None reading now same is after = absurd (cc)
-gave_one (Some old) (Some new) reading now same is after = (same ∙ is, cc)
-
 -- readings, and then one more
 gave_more : (old : Readings) (readings : List ℕ) (mid : Readings) (reading : ℕ) (new : Readings) → Gave old readings mid → Gave mid (reading ∷ []) new → Gave old (readings ++ reading ∷ []) new
 gave_more old [] mid reading new so_far one = rw (← so_far) one
@@ -72,20 +61,6 @@ both first second =
 pub record Follows (first second : Outside) : Type 0 where
   pub output : first.new_output ≡ second.old_output
   pub clock : first.new_clock ≡ second.old_clock
-
--- before the first request
-pub so_far_begins : (answers : Answers) (origin : ℕ) (before : List Entry) (input output : Option (List ℕ)) (clock : Option Readings)
-    → SoFar answers origin before before input input (record { old_output = output; new_output = output; old_clock = clock; new_clock = clock }) 0
-so_far_begins answers origin before input output clock =
-    record { turns = []; exchange = refl; requests = given_nothing input; responses = appends_nothing output; readings = gave_nothing clock; counted = refl }
-  where
-    appends_nothing : (output : Option (List ℕ)) → Appends output output []
-    appends_nothing None = tt
-    appends_nothing (Some bytes) = sym (append-nil bytes)
-
-    gave_nothing : (clock : Option Readings) → GaveKnown clock [] clock
-    gave_nothing None = tt
-    gave_nothing (Some readings) = refl
 
 -- the requests, and then of one more turn
 given_turn : (input left new_left : Option (List ℕ)) (turns : List Turn) (turn : Turn) (request : HttpRequest) → HasGiven input (requests_of turns) left → Moves left new_left (Ok (Some request)) → turn.request ≡ message_of request → HasGiven input (requests_of (turns ++ turn ∷ [])) new_left
