@@ -19,12 +19,12 @@ not_true false fails = refl
 pub first_is_position : (byte : ℕ) (bytes : List ℕ) (result : Option ℕ) → IsFirstByte (is_byte byte) bytes result → result ≡ position (λ b. b == byte) bytes
 first_is_position byte bytes None none =
     let at : position_or_len (λ b. b == byte) bytes ≡ length bytes =
-        position_or_len_is (λ b. b == byte) bytes (length bytes) 0 (omega arith) (λ k low. not_true _ (none k (omega arith) low)) (λ past. absurd (omega arith)) in
+    position_or_len_is (λ b. b == byte) bytes (length bytes) 0 (omega arith) (λ k low. not_true _ (none k (omega arith) low)) (λ past. absurd (omega arith)) in
     rw at (grind (arith, nat_tests))
 first_is_position byte bytes (Some k) (before, here) =
     let within : k < length bytes = before.high in
     let at : position_or_len (λ b. b == byte) bytes ≡ k =
-        position_or_len_is (λ b. b == byte) bytes k 0 (omega arith) (λ i low. not_true _ (before.before i (omega arith) low)) (λ _. here) in
+    position_or_len_is (λ b. b == byte) bytes k 0 (omega arith) (λ i low. not_true _ (before.before i (omega arith) low)) (λ _. here) in
     rw at (grind (arith, nat_tests))
 
 -- the bytes before the first one that passes don't
@@ -71,10 +71,12 @@ found_at byte bytes at len low found =
     let within : at + len < length bytes = omega (arith, here.0, length-drop at bytes) in
     let is : get_or bytes (at + len) 0 ≡ byte = sym (get_or-drop at bytes len 0) ∙ here.1 in
     let end : take at bytes ++ slice_range bytes at (at + len) ≡ take (at + len) bytes = take_to bytes at (at + len) (omega arith) in
-    let more : take (at + len + 1) bytes ≡ take (at + len) bytes ++ byte ∷ [] = rw is at (take_more bytes (at + len) 0 within) in
-    (within, λ front.
-        append_assoc (front ++ take at bytes) _ _ ∙ append_assoc front (take at bytes) _
-        ∙ ap (λ t. front ++ t) (sym (append_assoc (take at bytes) _ _) ∙ ap (λ t. t ++ byte ∷ []) end ∙ sym more))
+    let more : take (at + len + 1) bytes ≡ take (at + len) bytes ++ byte ∷ [] = rw is at (take_more bytes (at + len) 0 within) in (
+      within,
+      λ front.
+          append_assoc (front ++ take at bytes) _ _ ∙ append_assoc front (take at bytes) _
+          ∙ ap (λ t. front ++ t) (sym (append_assoc (take at bytes) _ _) ∙ ap (λ t. t ++ byte ∷ []) end ∙ sym more),
+    )
 
 -- a search that found nothing
 pub no_part : (found position : Option ℕ) → found ≡ position → ((k : ℕ) → found ≡ Some k → ⊥) → position ≡ None

@@ -1,9 +1,8 @@
 -- Writes one after the other, and what stands after a fault among them.
-use Rattle.std.proofs.Common.{◌≡◌, ℕ, ◌+◌, ◌≤◌, ◌-◌, min, Option, Some, None, Result, Ok, Err, OnOk, OnErr, List, [], ◌++◌, length, take, drop, sym, ◌∙◌, ap, refl, append_assoc, arith}
+use Rattle.std.proofs.Common.{◌≡◌, ℕ, ◌≤◌, ◌-◌, min, Option, Some, None, Result, Ok, Err, OnOk, OnErr, List, [], ◌++◌, length, take, drop, sym, ◌∙◌, ap, append_assoc, arith}
 use Rattle.std.proofs.lemmas.List.{append-nil, take-append-le, take_min, length-drop}
-use Rattle.std.proofs.Math.Seq.{take-append-add, take-append_seam, take-length}
+use Rattle.std.proofs.Math.Seq.{take-length}
 use Rattle.std.specs.Io.KnownBytes.{Appends, Keeps}
-use Rattle.al_base.specs.Outside.{Rose}
 use Rattle.al_http.specs.Fronts.{AppendsFront, Gathers}
 use Rattle.al_http.proofs.FrontLaws.{appends_more, front_more}
 

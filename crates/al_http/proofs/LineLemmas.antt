@@ -1,6 +1,6 @@
 -- How many lines a head has: that of the request, and one for each field.
-use Rattle.std.proofs.Common.{◌≡◌, ◌≢◌, ℕ, ◌+◌, ◌-◌, ◌<◌, ◌≤◌, Bool, true, false, not, ◌==◌, List, [], ◌∷◌, ◌++◌, length, take, drop, map, refl, sym, ◌∙◌, ap, append_assoc, arith, codes, cond}
-use Rattle.std.specs.List.{All, AllByRecursion, AllPass, count_by, position_or_len, flat_map}
+use Rattle.std.proofs.Common.{◌≡◌, ℕ, ◌+◌, ◌≤◌, Bool, true, false, ◌==◌, List, [], ◌∷◌, ◌++◌, length, take, drop, refl, sym, ◌∙◌, ap, append_assoc, arith, codes, cond}
+use Rattle.std.specs.List.{AllByRecursion, AllPass, count_by, position_or_len, flat_map}
 use Rattle.std.proofs.lemmas.Bool.Decides.{nat_tests}
 use Rattle.std.proofs.lemmas.List.{append-nil, drop-drop, length-take, length-map}
 use Rattle.std.proofs.lemmas.List.Sums.{sum_by-append, sum_by-cons}
@@ -78,6 +78,7 @@ token_starts (b ∷ token) rest is = rw (text (b == line_feed) (b == carriage_re
   where
     passes : is_token_byte b ≡ true
     passes = (recursion_from_All (λ x. is_token_byte x ≡ true) (b ∷ token) is.1).0
+
     text : (feed return : Bool) → (b == line_feed) ≡ feed → (b == carriage_return) ≡ return → is_line_byte b ≡ true
     text true return f r = let same : b ≡ line_feed = grind (arith, nat_tests) in absurd (cc (passes, same, token_no_feed))
     text false true f r = let same : b ≡ carriage_return = grind (arith, nat_tests) in absurd (cc (passes, same, token_no_return))
@@ -99,15 +100,16 @@ head_feeds h is =
     let target = none_in is_uri_byte refl h.target is.target.1 in
     let fields = fields_feeds h.fields (recursion_from_All IsField h.fields is.fields) in
     let last : feeds (behind_version h) ≡ length h.fields + 2 =
-        rw (both (print_end h.line_end) (flat_map print_field h.fields ++ print_end h.last), both (flat_map print_field h.fields) (print_end h.last), end_feeds h.line_end, end_feeds h.last, fields) (omega arith) in
+    rw (both (print_end h.line_end) (flat_map print_field h.fields ++ print_end h.last), both (flat_map print_field h.fields) (print_end h.last), end_feeds h.line_end, end_feeds h.last, fields) (omega arith) in
     let third : feeds (behind_target h) ≡ length h.fields + 2 =
-        rw (both (32 ∷ print_version h.minor) (behind_version h), one_more 32 (print_version h.minor), version_feeds h.minor, last) (omega arith) in
+    rw (both (32 ∷ print_version h.minor) (behind_version h), one_more 32 (print_version h.minor), version_feeds h.minor, last) (omega arith) in
     let second : feeds (behind_method h) ≡ length h.fields + 2 =
-        rw (both (32 ∷ h.target) (behind_target h), one_more 32 h.target, target, third) (omega arith) in
+    rw (both (32 ∷ h.target) (behind_target h), one_more 32 h.target, target, third) (omega arith) in
     rw (both h.method (behind_method h), method, second) (omega arith)
   where
     digit : (minor : ℕ) → (48 + minor == line_feed) ≡ false
     digit minor = grind (arith, nat_tests)
+
     version_feeds : (minor : ℕ) → feeds (print_version minor) ≡ 0
     version_feeds minor = both (codes "HTTP/1.") ((48 + minor) ∷ []) ∙ rw (one_more (48 + minor) [], digit minor) refl
 
@@ -120,7 +122,7 @@ unfolding print_request
 lines_of block h is text =
     let parts : block ≡ print_blank h.blank ++ (h.method ++ behind_method h) = text ∙ regroup (print_blank h.blank) h.method (32 ∷ h.target) (32 ∷ print_version h.minor) (print_end h.line_end) (print_section h.fields h.last) in
     let first : from_first_line block ≡ h.method ++ behind_method h =
-        ap from_first_line parts ∙ skip_blank h.blank (h.method ++ behind_method h) ∙ token_starts h.method (behind_method h) is.method in
+    ap from_first_line parts ∙ skip_blank h.blank (h.method ++ behind_method h) ∙ token_starts h.method (behind_method h) is.method in
     let feeds_are = head_feeds h is in
     rw (first, feeds_are) (omega arith)
 

@@ -17,21 +17,46 @@ row : (status : ℕ) (text : List ℕ) → 100 ≤ status → status < 1000 → 
 row status text from to is short = record { from = from; to = to; is = is; short = short }
 
 all_rows : AllByRecursion (λ r. IsRow r.0 r.1) phrases
-all_rows =
-  (row 200 _ (lit≤ tt) (lit< tt) refl (lit≤ tt),
-  (row 201 _ (lit≤ tt) (lit< tt) refl (lit≤ tt),
-  (row 204 _ (lit≤ tt) (lit< tt) refl (lit≤ tt),
-  (row 400 _ (lit≤ tt) (lit< tt) refl (lit≤ tt),
-  (row 404 _ (lit≤ tt) (lit< tt) refl (lit≤ tt),
-  (row 405 _ (lit≤ tt) (lit< tt) refl (lit≤ tt),
-  (row 406 _ (lit≤ tt) (lit< tt) refl (lit≤ tt),
-  (row 409 _ (lit≤ tt) (lit< tt) refl (lit≤ tt),
-  (row 413 _ (lit≤ tt) (lit< tt) refl (lit≤ tt),
-  (row 415 _ (lit≤ tt) (lit< tt) refl (lit≤ tt),
-  (row 500 _ (lit≤ tt) (lit< tt) refl (lit≤ tt),
-  (row 501 _ (lit≤ tt) (lit< tt) refl (lit≤ tt),
-  (row 503 _ (lit≤ tt) (lit< tt) refl (lit≤ tt),
-  tt)))))))))))))
+all_rows = (
+  row 200 _ (lit≤ tt) (lit< tt) refl (lit≤ tt),
+  (
+    row 201 _ (lit≤ tt) (lit< tt) refl (lit≤ tt),
+    (
+      row 204 _ (lit≤ tt) (lit< tt) refl (lit≤ tt),
+      (
+        row 400 _ (lit≤ tt) (lit< tt) refl (lit≤ tt),
+        (
+          row 404 _ (lit≤ tt) (lit< tt) refl (lit≤ tt),
+          (
+            row 405 _ (lit≤ tt) (lit< tt) refl (lit≤ tt),
+            (
+              row 406 _ (lit≤ tt) (lit< tt) refl (lit≤ tt),
+              (
+                row 409 _ (lit≤ tt) (lit< tt) refl (lit≤ tt),
+                (
+                  row 413 _ (lit≤ tt) (lit< tt) refl (lit≤ tt),
+                  (
+                    row 415 _ (lit≤ tt) (lit< tt) refl (lit≤ tt),
+                    (
+                      row 500 _ (lit≤ tt) (lit< tt) refl (lit≤ tt),
+                      (
+                        row 501 _ (lit≤ tt) (lit< tt) refl (lit≤ tt),
+                        (
+                          row 503 _ (lit≤ tt) (lit< tt) refl (lit≤ tt),
+                          tt,
+                        ),
+                      ),
+                    ),
+                  ),
+                ),
+              ),
+            ),
+          ),
+        ),
+      ),
+    ),
+  ),
+)
 
 found_row : (status : ℕ) (rows : List (ℕ × List ℕ)) → AllByRecursion (λ r. IsRow r.0 r.1) rows → IfSome (option_map (λ r. r.1) (find (λ r. r.0 == status) rows)) (λ text. IsRow status text)
 found_row status [] all = tt

@@ -79,6 +79,7 @@ empty_lines (b ∷ bytes) = let more = empty_lines bytes in (outside (b == line_
     outside true return f r more ends = let rest = more.0 ends in let is : b ≡ line_feed = grind (arith, nat_tests) in (lf ∷ rest.0, rw is (ap (λ t. line_feed ∷ t) rest.1))
     outside false true f r more ends = let is : b ≡ carriage_return = grind (arith, nat_tests) in rw is (more.1 ends)
     outside false false f r more ends = absurd (cc (ends))
+
     behind : (feed : Bool) → (b == line_feed) ≡ feed → AreEnds bytes → cond feed (are_line_ends false bytes) ((b == carriage_return) && false && are_line_ends false bytes) ≡ true → AreEmptyLines (carriage_return ∷ b ∷ bytes)
     behind true f more ends = let rest = more.0 ends in let is : b ≡ line_feed = grind (arith, nat_tests) in (crlf ∷ rest.0, rw is (ap (λ t. carriage_return ∷ line_feed ∷ t) rest.1))
     behind false f more ends = absurd (no_end (b == carriage_return) ends)

@@ -3,11 +3,11 @@ use Rattle.std.proofs.Common.{◌≡◌, ◌≢◌, ℕ, ◌⊎◌, Bool, true, 
 use Rattle.std.proofs.lemmas.Bool.Decides.{nat_tests}
 use Rattle.std.proofs.lemmas.List.{same_from_push, append-nil}
 use Rattle.std.proofs.lemmas.List.Folds.{list_any-append}
-use Rattle.std.specs.List.{list_any, AllByRecursion}
+use Rattle.std.specs.List.{AllByRecursion}
 use Rattle.al_http.specs.declared.scan.Seen.{Seen}
 use Rattle.al_http.specs.declared.scan.Seen.TheVariants.{Nothing, Text, LineFeed, Return}
 use Rattle.al_http.specs.Blocks.{line_feed, carriage_return, is_line_byte, HasLineByte, EndsInEmptyLine, IsBlock, HoldsNoBlock}
-use Rattle.al_http.specs.Scans.{EndsWith, Shows, IsAfter}
+use Rattle.al_http.specs.Scans.{EndsWith, IsAfter}
 
 -- What stands before a last byte begins with each front that is shorter than all of it.
 front_of_push : (xs : List ℕ) (b : ℕ) (front : List ℕ) (y : ℕ) (back : List ℕ) → xs ++ b ∷ [] ≡ front ++ y ∷ back → (more : List ℕ) × (xs ≡ front ++ more)

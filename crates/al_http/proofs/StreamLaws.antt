@@ -1,5 +1,5 @@
 -- A stream has one list of requests and one ending, and the calls of a framer run through it.
-use Rattle.std.proofs.Common.{◌≡◌, ℕ, ◌+◌, ◌-◌, ◌≤◌, ◌<◌, ◌⊎◌, Bool, true, false, ◌||◌, ◌&&◌, not, cond, ◌==◌, List, [], ◌∷◌, ◌++◌, length, take, drop, Option, None, Some, Ok, Err, refl, sym, ◌∙◌, ap, inl, inr, arith}
+use Rattle.std.proofs.Common.{◌≡◌, ℕ, ◌+◌, ◌-◌, ◌≤◌, ◌<◌, ◌⊎◌, false, List, [], ◌∷◌, ◌++◌, length, take, drop, Option, None, Some, Ok, Err, refl, sym, ◌∙◌, ap, inl, inr, arith}
 use Rattle.std.specs.List.{list_any}
 use Rattle.std.specs.Prelude.{IfSome}
 use Rattle.std.proofs.Math.Seq.{take-append-add}
@@ -10,7 +10,7 @@ use Rattle.httparse.proofs.GrammarLemmas.{request_unique}
 use Rattle.al_http.specs.declared.framer.Stop.TheVariants.{ReadFault}
 use Rattle.al_http.specs.declared.framer.Stop.TheVariants as stops
 use Rattle.al_http.specs.declared.request.HttpRequest.{HttpRequest}
-use Rattle.al_http.specs.Blocks.{line_feed, carriage_return, is_line_byte, HasLineByte, IsBlock, HoldsNoBlock, AreEmptyLines}
+use Rattle.al_http.specs.Blocks.{is_line_byte, HasLineByte, IsBlock, HoldsNoBlock, AreEmptyLines}
 use Rattle.al_http.specs.Requests.{RequestMessage, Frames, fields_of, IsHead, FirstRequest, HasEnded, IsTooLong, HasRejectedBlock, IsRejected, LacksBody, IsCut}
 use Rattle.al_http.specs.Streams.{Ending, Ended, Limit, Cut, Rejected, Cuts, RestEnds, EndsAs, request_limit, IsStream, HasGiven, IsWhole}
 use Rattle.al_http.specs.Shown.{message_of}

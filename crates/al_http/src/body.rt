@@ -6,8 +6,8 @@ ghost use Rattle.al_http.specs.Responses.{body_of, media_type_of, HasRow};
 ghost use Rattle.al_http.specs.Told.{told};
 ghost use Rattle.al_http.specs.OutputBuffers.{output_room};
 
-use crate::output_buffer::OutputBuffer;
 use crate::error_row::{ErrorRow, error_row};
+use crate::output_buffer::OutputBuffer;
 use crate::response::Content;
 
 /// The body that names the root of RESTCONF (RFC 8040, section 3.1).

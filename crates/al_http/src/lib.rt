@@ -2,13 +2,13 @@
 #![tactic(auto)]
 
 mod body;
-mod output_buffer;
-mod input_buffer;
 mod error_row;
 mod escape;
 mod fields;
 pub mod framer;
 mod head;
+mod input_buffer;
+mod output_buffer;
 mod phrase;
 pub mod request;
 pub mod response;

@@ -9,9 +9,9 @@ ghost use Rattle.al_http.specs.Laws.{WholeThenWhole, WholeThenFront};
 ghost use Rattle.al_http.specs.OutputBuffers.{gather_limit, most_field_bytes};
 
 use crate::body::{HOST_META, push_row};
-use crate::output_buffer::{OutputBuffer, ROOM};
 use crate::escape::push_escape;
 use crate::fields::push_fields;
+use crate::output_buffer::{OutputBuffer, ROOM};
 use crate::response::{Content, Response};
 use al_base::{Sink, Text, WriteFault};
 
@@ -49,7 +49,11 @@ fn make_room<O: Sink>(sink: &mut O, buffer: &mut OutputBuffer) -> Result<(), Wri
 }
 
 /// Sends the name of a shelf as it stands in a path, and leaves the last of it gathered.
-fn send_escaped<O: Sink>(sink: &mut O, buffer: &mut OutputBuffer, name: &[u8]) -> Result<(), WriteFault>
+fn send_escaped<O: Sink>(
+    sink: &mut O,
+    buffer: &mut OutputBuffer,
+    name: &[u8],
+) -> Result<(), WriteFault>
     requires { length buffer.old ≤ gather_limit + 3 }
     ensures ok { OnOk result (Gathers (O.held sink.old) (O.held sink.new) buffer.old buffer.new (escaped name.now)) }
     ensures room { OnOk result (length buffer.new ≤ gather_limit + 3) }
@@ -89,7 +93,11 @@ fn send_location<O: Sink>(
 }
 
 /// Sends what was gathered and then a text, together where both fit.
-fn send_with<O: Sink>(sink: &mut O, buffer: &mut OutputBuffer, text: &[u8]) -> Result<(), WriteFault>
+fn send_with<O: Sink>(
+    sink: &mut O,
+    buffer: &mut OutputBuffer,
+    text: &[u8],
+) -> Result<(), WriteFault>
     ensures ok { OnOk result (Appends (O.held sink.old) (O.held sink.new) (buffer.old ++ text.now)) }
     ensures fault { OnErr result (AppendsFront (O.held sink.old) (O.held sink.new) (buffer.old ++ text.now)) }
     ensures later { O.faults sink.old ≤ O.faults sink.new }

@@ -92,7 +92,11 @@ fn heads_are_within_their_limits(rt: HostRuntime) -> Result<(), Fail> {
     for (len, fields, ends, expected) in rows {
         let input = head(rt.alloc(), len, fields, ends)?;
         let taken = take_pieces(rt.alloc(), &mut framer, &input, 1000)?;
-        assert_eq!(rt; taken, expected, "{len} bytes, {fields} fields, {ends} ends");
+        assert_eq!(rt;
+            taken,
+            expected,
+            "{len} bytes, {fields} fields, {ends} ends"
+        );
     }
     Ok(())
 }

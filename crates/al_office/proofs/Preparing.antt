@@ -46,6 +46,7 @@ changes_known t r status text i known new = record {
   where
     of_r : IfSome (alarm_of r t.state.alarms) (λ a. a.resource ≡ r)
     of_r = alarm_of_resource r t.state.alarms
+
     by : (found : Option AlarmState) → IfSome found (λ a. a.resource ≡ r) → is_some (reported found r status text) ≡ true → ((a : AlarmState) → a.resource ≡ r → put a t.state.alarms ≡ slice_set t.state.alarms i a) → (found ≡ None → ⊥)
         → with_changed t.state.alarms i status text found ≡ with_change (reported found r status text) t.state.alarms
     by None is some there not_none = absurd (not_none refl)
@@ -56,6 +57,7 @@ changes_known t r status text i known new = record {
         of : (status : Status) → a.resource ≡ r → (changed_by status text a).resource ≡ r
         of (Active severity) same = same
         of Cleared same = same
+
     some_there : slice_get t.state.alarms i ≡ None → ⊥
     some_there none = known_some t.state.alarms i known.within none
       where
@@ -63,6 +65,7 @@ changes_known t r status text i known new = record {
         known_some [] i within none = omega arith
         known_some (x ∷ xs) zero within none = cc
         known_some (x ∷ xs) (suc i) within none = known_some xs i (omega arith) none
+
     alarms_are : with_changed t.state.alarms i status text (slice_get t.state.alarms i) ≡ with_change (reported (alarm_of r t.state.alarms) r status text) t.state.alarms
     alarms_are = subst (λ found. with_changed t.state.alarms i status text found ≡ with_change (reported (alarm_of r t.state.alarms) r status text) t.state.alarms) known.found
         (by (alarm_of r t.state.alarms) of_r new known.put_there (λ none. some_there (sym known.found ∙ none)))

@@ -1,11 +1,11 @@
 -- Turns one after the other: what they were asked, what they wrote, and when.
 use Rattle.std.proofs.lemmas.List.{append-nil, length-append, length-map, map-append}
-use Rattle.std.proofs.Common.{◌≡◌, ℕ, ◌+◌, ◌==◌, Option, None, Some, IfSome, Result, Ok, Err, OnOk, OnErr, MatchResult, List, [], ◌∷◌, ◌++◌, length, map, take, refl, sym, ap, ◌∙◌, append_assoc, add-zero, suc, true, option_map, ◌<◌, ◌⊎◌, inl, inr, arith}
+use Rattle.std.proofs.Common.{◌≡◌, ℕ, ◌+◌, Option, None, Some, Ok, Err, List, [], ◌∷◌, ◌++◌, length, take, refl, sym, ap, ◌∙◌, append_assoc, add-zero, suc, ◌<◌, ◌⊎◌, inl, inr, arith}
 use Rattle.std.specs.Io.KnownBytes.{Appends}
-use Rattle.al_base.specs.Readings.{Readings, next_reading, after_reading}
+use Rattle.al_base.specs.Readings.{Readings, after_reading}
 use Rattle.al_base.specs.declared.outside.WriteFault.{WriteFault}
 use Rattle.al_http.proofs.FrontLaws.{appends_more}
-use Rattle.al_http.proofs.StreamLaws.{given_nothing, given_more, ends_ended, ends_cut, ends_rejected, ends_limit}
+use Rattle.al_http.proofs.StreamLaws.{given_more, ends_ended, ends_cut, ends_rejected, ends_limit}
 use Rattle.al_http.specs.Fronts.{AppendsFront}
 use Rattle.al_http.specs.Moves.{Moves}
 use Rattle.al_http.specs.Shown.{message_of}

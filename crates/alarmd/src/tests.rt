@@ -185,7 +185,10 @@ fn sessions_end_as_they_do(rt: HostRuntime) -> Result<(), Fail> {
 #[test]
 fn answers_alike_wherever_the_input_is_cut(rt: HostRuntime) -> Result<(), Fail> {
     let alloc = rt.alloc();
-    let input = joined(alloc, &[b"GET /x HTTP/1.1\r\n\r\n", b"HEAD /y HTTP/1.1\r\n\r\n"])?;
+    let input = joined(
+        alloc,
+        &[b"GET /x HTTP/1.1\r\n\r\n", b"HEAD /y HTTP/1.1\r\n\r\n"],
+    )?;
     let expected = joined(alloc, &[NO_PATH_HEAD, NO_PATH_BODY, NO_PATH_HEAD])?;
     for first_piece in 1..input.len() {
         let plan = Plan {
@@ -193,7 +196,11 @@ fn answers_alike_wherever_the_input_is_cut(rt: HostRuntime) -> Result<(), Fail> 
             ..WELL
         };
         let cut = run_over_memory(alloc, SESSION, &input, plan)?;
-        assert_eq!(rt; cut.output.as_slice(), expected.as_slice(), "cut at {first_piece}");
+        assert_eq!(rt;
+            cut.output.as_slice(),
+            expected.as_slice(),
+            "cut at {first_piece}"
+        );
     }
     Ok(())
 }

@@ -1,6 +1,5 @@
-use Rattle.std.proofs.Common.{◌≡◌, ℕ, ◌+◌, ◌<◌, ◌≤◌, Option, Some, None, List, ◌∷◌, [], ◌++◌, length, take, sym, ◌∙◌, ap, append_assoc, arith}
+use Rattle.std.proofs.Common.{length, take, sym, ◌∙◌, append_assoc, arith}
 use Rattle.std.proofs.Math.Seq.{take-length}
-use Rattle.std.specs.List.{position}
 use Rattle.al_http.proofs.FindLemmas.{part_before, found_at, none_at_all, no_part}
 use Rattle.al_http.proofs.StreamLemmas.{take_to}
 use Rattle.al_http.proofs.scan.look_on.Goals as goal

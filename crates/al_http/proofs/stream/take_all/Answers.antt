@@ -2,7 +2,7 @@ use Rattle.std.proofs.Common.{◌<◌, [], ◌∷◌, ◌++◌, length, arith}
 use Rattle.std.proofs.lemmas.List.{length_push}
 use Rattle.al_http.specs.Shown.{message_of}
 use Rattle.al_http.specs.Streams.{request_limit}
-use Rattle.al_http.proofs.StreamLaws.{given_nothing, given_more, ends_ended, ends_cut, ends_rejected, ends_limit}
+use Rattle.al_http.proofs.StreamLaws.{given_more, ends_cut, ends_rejected}
 use Rattle.al_http.proofs.stream.take_all.Goals as goal
 
 pub loop-count-preserved : goal.loop-count-preserved

@@ -1,5 +1,5 @@
 use Rattle.std.proofs.Common.{◌∙◌, refl, arith}
-use Rattle.alarmd.proofs.Turning.{so_far_more, ends_by_end, ends_by_cut, ends_by_read_fault, ends_by_limit, ends_by_write_fault, ends_by_rejection}
+use Rattle.alarmd.proofs.Turning.{so_far_more, ends_by_end, ends_by_cut, ends_by_read_fault, ends_by_write_fault, ends_by_rejection}
 use Rattle.alarmd.proofs.conversation.converse.Goals as goal
 
 pub returns-in-Err-clause-conversation : goal.returns-in-Err-clause-conversation

@@ -1,5 +1,4 @@
-use Rattle.std.proofs.Common.{◌≢◌, arith}
-use Rattle.std.proofs.lemmas.Bool.Decides.{nat_tests}
+use Rattle.std.proofs.Common.{◌≢◌}
 use Rattle.al_http.specs.Blocks.{carriage_return}
 use Rattle.al_http.proofs.ScanLemmas.{after_text, line_byte}
 use Rattle.al_http.proofs.scan.Seen.after.Goals as goal

@@ -1,4 +1,4 @@
-use Rattle.std.proofs.Common.{◌++◌, take, drop, ap, append_assoc, ◌∙◌, ◌≢◌}
+use Rattle.std.proofs.Common.{◌++◌, take, drop, append_assoc, ◌≢◌}
 use Rattle.std.proofs.lemmas.List.{take-append-drop}
 use Rattle.std.proofs.lemmas.List.Elements.{All-drop, recursion_from_All}
 use Rattle.al_http.specs.Blocks.{line_feed}

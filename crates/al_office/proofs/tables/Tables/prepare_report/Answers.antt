@@ -1,10 +1,7 @@
-use Rattle.std.proofs.Common.{◌≡◌, ◌<◌, ◌∙◌, sym, ap, subst, true, arith}
-use Rattle.std.specs.Option.{is_some}
-use Rattle.al_report.specs.Alarms.{alarm_of, reported}
+use Rattle.std.proofs.Common.{◌∙◌, sym, ap, subst, arith}
 use Rattle.al_report.specs.declared.event.Event.TheVariants.{Report}
 use Rattle.al_office.specs.Tables.{IsKnownAt, IsAbsentAt, IsPreparedFor}
-use Rattle.al_office.specs.View.{TablesView}
-use Rattle.al_office.specs.declared.tables.Prepared.TheVariants.{Change, Insert}
+use Rattle.al_office.specs.declared.tables.Prepared.TheVariants.{Change}
 use Rattle.al_office.proofs.Preparing.{changes_known, inserts_new}
 use Rattle.al_office.proofs.tables.Tables.prepare_report.Goals as goal
 
