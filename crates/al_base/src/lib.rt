@@ -17,7 +17,7 @@ pub mod type_id;
 pub use copied::Copied;
 pub use event_type::EventType;
 pub use list::List;
-pub use memory::{MemClock, MemSink, MemSource};
+pub use memory::{MemClock, MemSink, MemSource, Plan};
 pub use operator::OperatorState;
 pub use outside::{Clock, ReadFault, Sink, Source, WriteFault};
 pub use severity::{Severity, Status};

@@ -14,9 +14,9 @@ use crate::stamp::Stamp;
 use std::alloc::{AllocError, Global};
 use std::marker::Model;
 
-/// Which calls of an object fail.
+/// Which calls of an object in memory fail, how many were made, and how many of them failed.
 #[derive(Debug, Drop)]
-struct Plan {
+pub struct Plan {
     fails: Vec<u64>,
     calls: u64,
     faults: u64,
@@ -31,7 +31,8 @@ impl Model for Plan {
 }
 
 impl Plan {
-    fn new(alloc: Global, fails: &[u64]) -> Result<Plan, AllocError>
+    /// No call was made yet; those are to fail whose number, from 1 on, is in `fails`.
+    pub fn new(alloc: Global, fails: &[u64]) -> Result<Plan, AllocError>
         ensures { IfOk result (λ plan. plan ≡ record { fails = fails.now; calls = 0; faults = 0 }) }
     {
         Ok(Plan {
@@ -41,21 +42,24 @@ impl Plan {
         })
     }
 
-    fn fails_next(&self) -> bool
+    /// Whether the next call is to fail.
+    pub fn fails_next(&self) -> bool
         ensures { result ≡ fails_next self.now }
     {
         self.fails.contains(&self.calls.saturating_add(1))
     }
 
-    fn calls(&self) -> u64
+    /// How many calls were made.
+    pub fn calls(&self) -> u64
         ensures { result ≡ self.now.calls }
     {
         self.calls
     }
 
     /// Counts a call, and its fault if it failed.
-    fn count(&mut self, failed: bool)
+    pub fn count(&mut self, failed: bool)
         ensures after { self.new ≡ after_call self.old failed }
+        ensures calls { self.old.calls ≤ self.new.calls }
         ensures later { self.old.faults ≤ self.new.faults }
         ensures cause { failed ≡ true → Rose self.old.faults self.new.faults }
     {
