@@ -159,4 +159,3 @@ room_left name shelves spare left (inl some) e =
 room_left name shelves spare left (inr named) e =
     let fewer = fewer_named name shelves (place_of name shelves) refl named in
     omega arith
-
