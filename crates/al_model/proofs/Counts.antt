@@ -94,8 +94,7 @@ loses s time side filter a = by (is_on s side a.key && compress_takes filter a.k
 
     fewer : nat_lt (length (take 1 a.statuses)) count ≡ nat_lt 1 count
     fewer =
-        one_answer (nat_lt (length (take 1 a.statuses)) count) (nat_lt 1 count)
-        (
+        one_answer (nat_lt (length (take 1 a.statuses)) count) (nat_lt 1 count) (
           λ h. let lt = (Decides-ltb (length (take 1 a.statuses)) count).0 h in omega (arith, length-take 1 a.statuses),
           λ lt. (Decides-ltb (length (take 1 a.statuses)) count).1 (omega (arith, length-take 1 a.statuses)),
         )
@@ -168,7 +167,7 @@ purge_answers s origin side filter now event n h =
     let count : n ≡ count_by (touches s (entry_time s now) (events.Purge side filter)) s.alarms = cc (r.1) in
     let all = purge_counts s (entry_time s now) origin side filter in
     let same : length (step s (entry_of s origin event now)).alarms ≡ length (step s (entry_of s origin (events.Purge side filter) now)).alarms =
-        ap (λ v. length (step s (entry_of s origin v now)).alarms) r.0 in
+    ap (λ v. length (step s (entry_of s origin v now)).alarms) r.0 in
     omega (arith, count, all, same)
 
 pub compress_answers : (s : State) (origin : ℕ) (side : Side) (filter : CompressFilter) (now : ℕ) (event : Event) (n : ℕ) → decision_of s (requests.Compress side filter) now ≡ Change event (Count n) → n ≡ count_by lost_entry (zip s.alarms (step s (entry_of s origin event now)).alarms)

@@ -83,7 +83,7 @@ named_at others n other distinct is =
     let at : get_or others n other ≡ other = get_or_from_slice_get others n other other is in
     let here : is_named other.name (get_or others n other) ≡ true = ap (is_named other.name) at ∙ same_itself other.name in
     let before : (k : ℕ) → k < n → is_named other.name (get_or others k other) ≡ false =
-        λ k lt. earlier k (is_named other.name (get_or others k other)) refl (λ e. distinct k n other lt within (e ∙ ap (λ x. x.name) (sym at))) in
+    λ k lt. earlier k (is_named other.name (get_or others k other)) refl (λ e. distinct k n other lt within (e ∙ ap (λ x. x.name) (sym at))) in
     let place : position_or_len (is_named other.name) others ≡ n = position_or_len_is (is_named other.name) others n other (omega arith) before (λ _. here) in
     ap (λ i. cond (nat_lt i (length others)) (Some i) None) place ∙ ap (λ b. cond b (Some n) None) ((Decides-ltb n (length others)).1 within)
   where

@@ -25,7 +25,7 @@ each_after P Q s e fates new all =
     let becomes : AlarmState → Type 0 = λ b. Q (moved s (after_event s e.time e.event) e.time b) in
     all_map (moved s (after_event s e.time e.event) e.time) becomes Q (λ b h. h) (after_event s e.time e.event).alarms
     (all_with_newcomer becomes (newcomer s e.time e.event) (filter_map (fate s e.time e.event) s.alarms) new
-        (all_filter_map (fate s e.time e.event) P becomes fates s.alarms all))
+    (all_filter_map (fate s e.time e.event) P becomes fates s.alarms all))
 
 -- What each step keeps holds after a legal history.
 pub after_legal : (P : State → Type 0) → ((s : State) (e : Entry) → Fits s e → P s → P (step s e)) → (s : State) (h : List Entry) → IsLegalFrom s h → P s → P (replay_from s h)

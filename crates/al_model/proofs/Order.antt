@@ -98,7 +98,7 @@ step_order s e h =
     let after = after_event s e.time e.event in
     in_order_map (moved s after e.time) (moved_key s after e.time) after.alarms
     (in_order_with (newcomer s e.time e.event) (filter_map (fate s e.time e.event) s.alarms)
-        (in_order_filter_map (fate s e.time e.event) (fate_key s e.time e.event) s.alarms h))
+    (in_order_filter_map (fate s e.time e.event) (fate_key s e.time e.event) s.alarms h))
 
 pub none_in_order : IsInOrder []
 unfolding IsStrictlySortedBy

@@ -112,7 +112,7 @@ set_again s t (events.SetMax max) i m r x ok = ap not ((decides_max t.max max).1
 set_again s t (events.SetNotify rule) i m r x ok = ap not ((decides_rule t.rule rule).1 r)
 set_again s t (events.PutShelf shelf at) i m r x ok =
     ap not ((decides_shelves t.shelves (insert (without shelf.name t.shelves) at shelf)).1
-        (x ∙ ap (λ others. insert others at shelf) (sym (ap (without shelf.name) x ∙ others_stay shelf at s.shelves))))
+    (x ∙ ap (λ others. insert others at shelf) (sym (ap (without shelf.name) x ∙ others_stay shelf at s.shelves))))
 set_again s t (events.DropShelf name) i m r x ok =
     ap not ((decides_shelves t.shelves (without name t.shelves)).1 (x ∙ sym (ap (without name) x ∙ filter_again (λ y. not (is_named name y)) s.shelves)))
 set_again s t (events.Purge side filter) i m r x ok = refl
@@ -140,7 +140,7 @@ touch_again s time origin later (events.Report key status text) ok a =
     let same : AlarmState → Type 0 = λ b. touches (after s time origin event) later event b ≡ false in
     either (λ b. same (moved s (after_event s time event) time b)) (is_of key a && says_more a status text) (reported s.max time status text a) a
     (λ _. unmoved same s (after_event s time event) time (reported s.max time status text a) refl
-      (ap (λ c. is_of key (reported s.max time status text a) && c) (said s.max time status text a) ∙ and_false (is_of key (reported s.max time status text a))))
+    (ap (λ c. is_of key (reported s.max time status text a) && c) (said s.max time status text a) ∙ and_false (is_of key (reported s.max time status text a))))
     (λ not_more. unmoved same s (after_event s time event) time a refl not_more)
 touch_again s time origin later (events.Operate key state operator text) ok a = absurd ok
 touch_again s time origin later (events.SetMax None) ok a = refl
@@ -161,7 +161,7 @@ touch_again s time origin later (events.Purge side filter) ok a =
     let same : AlarmState → Type 0 = λ b. touches (after s time origin event) later event b ≡ false in
     either (λ o. IfSome o (λ b. same (moved s (after_event s time event) time b))) (is_on s side a.key && purge_takes filter (facts_of a) time) None (Some a) (λ _. tt)
     (λ left. unmoved same s (after_event s time event) time a refl
-      (by side left))
+    (by side left))
   where
     by : (side : Side) → (is_on s side a.key && purge_takes filter (facts_of a) time) ≡ false → (is_on (after s time origin (events.Purge side filter)) side a.key && purge_takes filter (facts_of a) later) ≡ false
     by sides.List left = ap (λ c. is_on s sides.List a.key && c) (ageless filter (facts_of a) time later ok) ∙ left
@@ -171,9 +171,9 @@ touch_again s time origin later (events.Compress side filter) ok a =
     let same : AlarmState → Type 0 = λ b. touches (after s time origin event) later event b ≡ false in
     either (λ b. same (moved s (after_event s time event) time b)) (is_on s side a.key && compress_takes filter a.key) (bounded (Some 1) a) a
     (λ _. unmoved same s (after_event s time event) time (bounded (Some 1) a) refl
-      (ap (λ c. (is_on (after s time origin event) side a.key && compress_takes filter a.key) && c)
-            (not_more 1 (length (take 1 a.statuses)) (omega (arith, length-take 1 a.statuses)))
-        ∙ and_false (is_on (after s time origin event) side a.key && compress_takes filter a.key)))
+    (ap (λ c. (is_on (after s time origin event) side a.key && compress_takes filter a.key) && c)
+    (not_more 1 (length (take 1 a.statuses)) (omega (arith, length-take 1 a.statuses)))
+    ∙ and_false (is_on (after s time origin event) side a.key && compress_takes filter a.key)))
     (λ left. unmoved same s (after_event s time event) time a refl (ap (λ c. c && nat_lt 1 (length a.statuses)) (by side left)))
   where
     by : (side : Side) → (is_on s side a.key && compress_takes filter a.key) ≡ false → (is_on (after s time origin (events.Compress side filter)) side a.key && compress_takes filter a.key) ≡ false
@@ -193,7 +193,7 @@ new_again s time origin later (events.Report key (Active severity) text) =
     let new = new_alarm (shelf_name s key) time key severity text in
     either (λ o. IfSome o (λ b. same (moved s (after_event s time event) time b))) (is_some (alarm_of key s.alarms)) None (Some new) (λ _. tt)
     (λ _. unmoved same s (after_event s time event) time new refl
-      (ap (λ c. is_of key new && c) (said_new (shelf_name s key) time key severity text) ∙ and_false (is_of key new)))
+    (ap (λ c. is_of key new && c) (said_new (shelf_name s key) time key severity text) ∙ and_false (is_of key new)))
 new_again s time origin later (events.Report key Cleared text) = tt
 new_again s time origin later (events.Operate key state operator text) = tt
 new_again s time origin later (events.SetMax max) = tt
@@ -208,7 +208,7 @@ untouched_again : (s : State) (time origin later : ℕ) (event : Event) → IsRe
 untouched_again s time origin later event ok =
     none_of_all (touches (after s time origin event) later event) (after s time origin event).alarms
     (each_after (λ a. ⊤) (λ b. touches (after s time origin event) later event b ≡ false) s (record { time = time; origin = origin; event = event })
-        (λ a _. touch_again s time origin later event ok a) (new_again s time origin later event) (all_of s.alarms))
+    (λ a _. touch_again s time origin later event ok a) (new_again s time origin later event) (all_of s.alarms))
 
 -- ---- a report on a known key makes no alarm again
 

@@ -108,7 +108,7 @@ pub none_touched_by : (s : State) (time : ℕ) (event : Event) → AllByRecursio
 none_touched_by s time event earlier same new =
     let g = moved s (after_event s time event) time in
     let lives : filter_map (life s time event) s.alarms ≡ s.alarms =
-        sym (map-filter_map g (fate s time event) s.alarms) ∙ sym (ap (λ o. map g (with_newcomer o (filter_map (fate s time event) s.alarms))) new) ∙ same in
+    sym (map-filter_map g (fate s time event) s.alarms) ∙ sym (ap (λ o. map g (with_newcomer o (filter_map (fate s time event) s.alarms))) new) ∙ same in
     none_touched (life s time event) (touches s time event) (λ a. a.changed < time) (touched s time event) s.alarms earlier lives
 
 -- ---- the note
@@ -121,7 +121,7 @@ no_news alarms key status text (Some a) is none = found_fails (is_of key) (λ x.
 unknown_news : (s : State) (time : ℕ) (key : AlarmKey) (status : Status) (text : Text) → alarm_of key s.alarms ≡ None → newcomer s time (events.Report key status text) ≡ None → is_news None status text ≡ false
 unknown_news s time key (Active severity) text unknown new =
     let made : Some (new_alarm (shelf_name s key) time key severity text) ≡ None =
-        sym (ap (λ o. cond (is_some o) None (Some (new_alarm (shelf_name s key) time key severity text))) unknown) ∙ new in
+    sym (ap (λ o. cond (is_some o) None (Some (new_alarm (shelf_name s key) time key severity text))) unknown) ∙ new in
     absurd (cc)
 unknown_news s time key Cleared text unknown new = refl
 
@@ -152,7 +152,7 @@ no_note s time (events.Install inventory) set none new = refl
 pub no_side : (s : State) (time : ℕ) (event : Event) (side : Side) → list_any (touches s time event) s.alarms ≡ false → newcomer s time event ≡ None → touches_side s time event side ≡ false
 no_side s time event side none new =
     ap (λ b. b || list_any (λ a. is_on s side a.key) (option_to_list (newcomer s time event)))
-        (none_of_both (touches s time event) (λ a. is_on s side a.key || is_on (set_by s event) side a.key) s.alarms none)
+    (none_of_both (touches s time event) (λ a. is_on s side a.key || is_on (set_by s event) side a.key) s.alarms none)
     ∙ ap (λ o. list_any (λ a. is_on s side a.key) (option_to_list o)) new
 
 -- ---- the state
@@ -170,12 +170,12 @@ same_leaves s e h =
     let new = is_none_at (newcomer s time event) first.1 in
     let time_is : (step s e).time ≡ time = ap (λ t. t.time) (step_is s e) in
     let all : step s e ≡ (let t : State = record s { time = time } in t) =
-        step_is s e
-        ∙ ap (λ c. built c (alarms_after s time event) (note_of s event) (touches_side s time event sides.List) (touches_side s time event sides.Shelf) time) (set_nothing s event second.0)
-        ∙ ap (λ alarms. built s alarms (note_of s event) (touches_side s time event sides.List) (touches_side s time event sides.Shelf) time) (alarms_stay s time event second.1 new)
-        ∙ ap (λ note. built s s.alarms note (touches_side s time event sides.List) (touches_side s time event sides.Shelf) time) (no_note s time event second.0 second.1 new)
-        ∙ ap (λ b. built s s.alarms None b (touches_side s time event sides.Shelf) time) (no_side s time event sides.List second.1 new)
-        ∙ ap (λ b. built s s.alarms None false b time) (no_side s time event sides.Shelf second.1 new) in
+    step_is s e
+    ∙ ap (λ c. built c (alarms_after s time event) (note_of s event) (touches_side s time event sides.List) (touches_side s time event sides.Shelf) time) (set_nothing s event second.0)
+    ∙ ap (λ alarms. built s alarms (note_of s event) (touches_side s time event sides.List) (touches_side s time event sides.Shelf) time) (alarms_stay s time event second.1 new)
+    ∙ ap (λ note. built s s.alarms note (touches_side s time event sides.List) (touches_side s time event sides.Shelf) time) (no_note s time event second.0 second.1 new)
+    ∙ ap (λ b. built s s.alarms None b (touches_side s time event sides.Shelf) time) (no_side s time event sides.List second.1 new)
+    ∙ ap (λ b. built s s.alarms None false b time) (no_side s time event sides.Shelf second.1 new) in
     all ∙ ap (λ t. let u : State = record s { time = t } in u) (sym time_is)
 
 -- ---- and back

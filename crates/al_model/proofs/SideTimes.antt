@@ -115,8 +115,8 @@ alone s time (events.Report key (Active severity) text) =
     either (λ o. IfSome o (IsAlone s time (events.Report key (Active severity) text))) (is_some (alarm_of key s.alarms)) None
     (Some (new_alarm (shelf_name s key) time key severity text)) (λ _. tt)
     (λ unknown.
-      let none : list_any (is_of key) s.alarms ≡ false = sym (found (is_of key) s.alarms) ∙ unknown in
-      record { none = none_of_both (is_of key) (λ a. says_more a (Active severity) text) s.alarms none; unset = refl; unknown = none })
+    let none : list_any (is_of key) s.alarms ≡ false = sym (found (is_of key) s.alarms) ∙ unknown in
+    record { none = none_of_both (is_of key) (λ a. says_more a (Active severity) text) s.alarms none; unset = refl; unknown = none })
 alone s time (events.Report key Cleared text) = tt
 alone s time (events.Operate key state operator text) = tt
 alone s time (events.SetMax max) = tt
@@ -136,10 +136,10 @@ with_one : (s : State) (time : ℕ) (event : Event) (new : AlarmState) → newco
 with_one s time event new is a =
     let g = moved s (after_event s time event) time in
     let still : (x : AlarmState) → g x ≡ x =
-        λ x. unmoved (λ b. b ≡ x) s (after_event s time event) time x (sym (ap (λ t. shelf_name t x.key) a.unset)) refl in
+    λ x. unmoved (λ b. b ≡ x) s (after_event s time event) time x (sym (ap (λ t. shelf_name t x.key) a.unset)) refl in
     let live : filter_map (fate s time event) s.alarms ≡ s.alarms =
-        sym (map_itself g still (filter_map (fate s time event) s.alarms)) ∙ map-filter_map g (fate s time event) s.alarms
-        ∙ all_live (life s time event) (touches s time event) (untouched s time event) s.alarms a.none in
+    sym (map_itself g still (filter_map (fate s time event) s.alarms)) ∙ map-filter_map g (fate s time event) s.alarms
+    ∙ all_live (life s time event) (touches s time event) (untouched s time event) s.alarms a.none in
     map_itself g still (with_newcomer (newcomer s time event) (filter_map (fate s time event) s.alarms))
     ∙ ap (λ o. with_newcomer o (filter_map (fate s time event) s.alarms)) is ∙ ap (with_newcomer (Some new)) live
 
@@ -158,8 +158,7 @@ all_upper key below [] lt h = (refl, refl)
 all_upper key below (x ∷ xs) lt h =
     let more = all_upper key below xs lt h.1 in
     let above : key_cmp x.key key ≡ Greater =
-        keys_total.antisymm x.key key ∙ ap ordering_reverse (keys_total.trans key below x.key lt h.0) in
-    (
+    keys_total.antisymm x.key key ∙ ap ordering_reverse (keys_total.trans key below x.key lt h.0) in (
       ap (λ o. cond (is_lt o) (x ∷ filter (λ a. is_lt (key_cmp a.key key)) xs) (filter (λ a. is_lt (key_cmp a.key key)) xs)) above ∙ more.0,
       ap (λ o. cond (is_gt o) (x ∷ filter (λ a. is_gt (key_cmp a.key key)) xs) (filter (λ a. is_gt (key_cmp a.key key)) xs)) above
           ∙ ap (λ ys. x ∷ ys) more.1,
@@ -203,9 +202,9 @@ this_side p new xs none here same =
     let upper = filter (λ a. is_gt (key_cmp a.key new.key)) xs in
     let on = λ (a : AlarmState). p a.key in
     let shown : filter on (with_newcomer (Some new) xs) ≡ filter on lower ++ new ∷ filter on upper =
-        filter_append on lower (new ∷ upper) ∙ ap (λ b. filter on lower ++ cond b (new ∷ filter on upper) (filter on upper)) here in
+    filter_append on lower (new ∷ upper) ∙ ap (λ b. filter on lower ++ cond b (new ∷ filter on upper) (filter on upper)) here in
     let found_after : list_any (is_of new.key) (filter on (with_newcomer (Some new) xs)) ≡ true =
-        ap (list_any (is_of new.key)) shown ∙ any_append (is_of new.key) (filter on lower) new (filter on upper) (ap is_eq (equal_key new.key new.key refl)) in
+    ap (list_any (is_of new.key)) shown ∙ any_append (is_of new.key) (filter on lower) new (filter on upper) (ap is_eq (equal_key new.key new.key refl)) in
     let both : true ≡ false = sym found_after ∙ ap (list_any (is_of new.key)) same ∙ none_kept (is_of new.key) on xs none in
     cc
   where
@@ -240,7 +239,7 @@ side_same : (s : State) (time : ℕ) (event : Event) (side : Side) (new : Option
 side_same s time event side None is none order earlier same =
     ap (λ b. b || false)
     (same_side (life s time event) (touches s time event) (is_on s side) (is_on (set_by s event) side) (λ a. a.changed < time) (sided s time event side) s.alarms order earlier
-        (sym (ap (filter (λ a. is_on (set_by s event) side a.key)) (map-filter_map (moved s (after_event s time event) time) (fate s time event) s.alarms)) ∙ same))
+    (sym (ap (filter (λ a. is_on (set_by s event) side a.key)) (map-filter_map (moved s (after_event s time event) time) (fate s time event) s.alarms)) ∙ same))
 side_same s time event side (Some new) is a order earlier same =
     ap (λ b. b || (is_on s side new.key || false)) (none_of_both (touches s time event) (λ x. is_on s side x.key || is_on (set_by s event) side x.key) s.alarms a.none)
     ∙ by (is_on s side new.key) refl

@@ -42,7 +42,6 @@ pub record AreSided (f : AlarmState → Option AlarmState) (t : AlarmState → B
   pub gone : (x : AlarmState) → f x ≡ None → p x.key ≡ q x.key
 
 module _ (f : AlarmState → Option AlarmState) (t : AlarmState → Bool) (p q : AlarmKey → Bool) (P : AlarmState → Type 0) (r : AreSided f t p q P) where
-
   -- one that isn't touched stays where it was
   kept : (x : AlarmState) (xs : List AlarmState) → t x ≡ false → filter (λ a. q a.key) (filter_map f xs) ≡ filter (λ a. p a.key) xs → filter (λ a. q a.key) (filter_map f (x ∷ xs)) ≡ filter (λ a. p a.key) (x ∷ xs)
   kept x xs still same =

@@ -157,7 +157,7 @@ moves_side s e side v f =
     record {
       stays = λ same. time_after s e side ∙ ap (λ b. time_of_change b e.time (side_time s side)) (law.1 same);
       moves = λ differ. time_after s e side
-        ∙ ap (λ b. time_of_change b e.time (side_time s side)) (not_false_true (touches_side s e.time e.event side) (λ none. differ (law.0 none)));
+          ∙ ap (λ b. time_of_change b e.time (side_time s side)) (not_false_true (touches_side s e.time e.event side) (λ none. differ (law.0 none)));
     }
 
 pub same_is : (s : State) (origin : ℕ) (request : Request) (now : ℕ) → missing s request ≡ None → undeclared s request ≡ None → IsSame (decision_of s request now) → IsSameButTime s (step s (entry_of s origin (event_of s request) now))

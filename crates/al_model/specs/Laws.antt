@@ -93,7 +93,7 @@ IsRefused s request now refusal =
     (missing s request ≡ Some refusal)
     ⊎ ((missing s request ≡ None) × (undeclared s request ≡ Some refusal))
     ⊎ ((missing s request ≡ None) × (undeclared s request ≡ None) × (changes s (entry_time s now) (event_of s request) ≡ true)
-        × (full s (entry_time s now) (event_of s request) ≡ Some refusal))
+    × (full s (entry_time s now) (event_of s request) ≡ Some refusal))
 
 abbrev pub RefusalsFollowPoints : Type 0
 RefusalsFollowPoints =
@@ -111,7 +111,7 @@ AnswersReply =
     (s : State) (request : Request) (now : ℕ) →
     ((reply : Reply) → decision_of s request now ≡ Same reply → reply ≡ reply_of s (entry_time s now) request)
     × ((event : Event) (reply : Reply) → decision_of s request now ≡ Change event reply
-        → (event ≡ event_of s request) × (reply ≡ reply_of s (entry_time s now) request))
+    → (event ≡ event_of s request) × (reply ≡ reply_of s (entry_time s now) request))
 
 -- What is decided on fits: the entry by which a request within limits is carried out goes on with a legal history.
 abbrev pub DecidedEntriesFit : Type 0

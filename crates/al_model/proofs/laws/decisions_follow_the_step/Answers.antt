@@ -12,5 +12,5 @@ returns c =
       never = never_refuses;
       replies = λ s request now. (λ reply h. (same_reply s request now reply h).0, change_reply s request now);
       fits = λ h origin request now event reply legal within from reading decided.
-        decided_fits (replay h) origin request now event reply (legal_valid h legal).shelves (legal_valid h legal).time within from reading decided;
+          decided_fits (replay h) origin request now event reply (legal_valid h legal).shelves (legal_valid h legal).time within from reading decided;
     }
