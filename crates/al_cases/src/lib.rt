@@ -16,6 +16,4 @@ mod record;
 #[cfg(test)]
 mod resource;
 #[cfg(test)]
-mod shelf;
-#[cfg(test)]
 mod types;

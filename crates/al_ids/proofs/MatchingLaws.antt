@@ -1,23 +1,21 @@
 -- The functions say what the relations say: whether a match takes a resource.
-use Rattle.std.proofs.Common.{◌≡◌, ◌≢◌, ◌↔◌, IsTrue, ℕ, ◌<◌, ◌≤◌, Bool, true, false, cond, not, ◌&&◌, ◌||◌, ◌⊎◌, inl, inr, Option, Some, None, IfSome, List, [], ◌∷◌, ◌++◌, length, refl, sym, ap, subst, ◌∙◌, arith}
+use Rattle.std.proofs.Common.{◌≡◌, ◌≢◌, IsTrue, ℕ, ◌≤◌, Bool, true, false, cond, not, ◌&&◌, ◌||◌, inl, inr, Option, Some, None, IfSome, List, [], ◌∷◌, ◌++◌, refl, sym, ap, subst, ◌∙◌}
 use Rattle.std.specs.Bool.{Decides}
 use Rattle.std.specs.Cmp.Lexicographic.{pointwise}
 use Rattle.std.specs.List.{AllByRecursion, AllZip, join_with_byte, list_all}
 use Rattle.std.specs.Prelude.{◌==◌, nat_le, nat_lt, is_none, chars, IsUtf8}
 use Rattle.std.specs.Str.{is_utf8}
-use Rattle.std.proofs.lemmas.Bool.{false≢true, cases_Bool, leb-true, le-leb, not-true, or_cases}
+use Rattle.std.proofs.lemmas.Bool.{false≢true, leb-true, le-leb}
 use Rattle.std.proofs.lemmas.Bool.Decides.{Decides-and, Decides-eqb, Decides-like, Decides-ltb, Decides-not, Decides-or, not_from_Decides}
 use Rattle.std.proofs.lemmas.Str.{IsUtf8-from_is_utf8, is_utf8-from_IsUtf8}
 use lib.Pointwise.{bytes_decides}
 use Rattle.al_base.specs.Identifiers.{is_identifier}
-use Rattle.al_pattern.specs.Language.{IsInLanguage}
 use Rattle.al_pattern.specs.Membership.{is_in_language}
 use Rattle.al_pattern.specs.Reading.{first_fault, tree_of}
-use Rattle.al_pattern.specs.Trees.{IsSpelled}
 use Rattle.al_pattern.proofs.MembershipLaws.{decides_language}
 use Rattle.al_pattern.proofs.OnlyLemmas.{fault_again}
 use Rattle.al_pattern.proofs.PatternLemmas.{no_fault_spelled}
-use Rattle.al_ids.specs.Matches.{is_rooted, IsXPath, IsOther, IsPatternMatch, IsSamePredicate, HasPredicate, with_modules, TakesStep, TakesPath, TakesOid, TakesPlain, Matches}
+use Rattle.al_ids.specs.Matches.{is_rooted, IsXPath, IsPatternMatch, HasPredicate, with_modules, TakesStep, TakesPath, TakesOid, TakesPlain, Matches}
 use Rattle.al_ids.specs.Matching.{is_same, are_rooted, is_oid, begins_with_arcs, are_names, is_predicate, is_step, has_steps, begins_in_module, is_of_steps, is_path, is_xpath, takes_module, has_predicate, takes_step, takes_steps, is_pattern, matches}
 use Rattle.al_ids.specs.Oids.{is_arc, arc_value, IsRooted, IsOid}
 use Rattle.al_ids.specs.Paths.{Predicate, Step, path_text, AreNames, IsPredicate, IsStep, BeginsInModule, IsPath}

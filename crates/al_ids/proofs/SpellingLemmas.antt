@@ -1,10 +1,9 @@
 -- What is read back from a text is what it was spelled of.
-use Rattle.std.proofs.Common.{◌≡◌, ◌≢◌, IsTrue, ℕ, zero, suc, ◌+◌, ◌≤◌, Bool, true, false, cond, not, Option, Some, None, List, [], ◌∷◌, ◌++◌, length, refl, sym, ap, subst, ◌∙◌, append_assoc, append-nil, length-append, arith}
+use Rattle.std.proofs.Common.{◌≡◌, ◌≢◌, ℕ, zero, suc, ◌≤◌, true, cond, Some, None, List, [], ◌∷◌, ◌++◌, length, refl, ap, ◌∙◌, append_assoc, length-append, arith}
 use Rattle.std.specs.Prelude.{◌==◌}
 use Rattle.std.specs.List.{AllByRecursion, flat_map, join_with_byte, list_all}
 use Rattle.std.specs.Option.{option_map_or}
 use Rattle.std.proofs.lemmas.Bool.{and_parts, not-true}
-use Rattle.al_ids.specs.Oids.{IsOid}
 use Rattle.al_ids.specs.Paths.{Predicate, Step, qualified, predicate_text, step_text, path_text, IsPredicate, IsStep}
 use Rattle.al_ids.specs.StepReading.{is_inside, behind_names, name_of, owner_of}
 use Rattle.al_ids.specs.Spellings.{with_digit, arcs_of, predicate_at, with_predicate, predicates_at, steps_at, steps_of}

@@ -1,5 +1,5 @@
 -- Which status changes are told.
-use Rattle.std.specs.Prelude.{ℕ, nat_le, Bool, true, false, not, ◌||◌, Option, None, Some}
+use Rattle.std.specs.Prelude.{nat_le, Bool, true, false, not, ◌||◌, Option, None, Some}
 use Rattle.al_base.specs.Names.{rank_of}
 use Rattle.al_base.specs.declared.severity.Severity.{Severity}
 use Rattle.al_base.specs.declared.severity.Status.{Status}

@@ -1,6 +1,6 @@
 -- What filters take, as functions and as relations.
-use Rattle.std.proofs.Common.{◌≡◌, ℕ, ◌+◌, ◌-◌, ◌<◌, Bool, true, false, cond, not, ◌&&◌, ◌==◌, Option, None, Some, List, refl, sym, ap, ◌∙◌, arith}
-use Rattle.std.specs.Bool.{Decides, nat_lt}
+use Rattle.std.proofs.Common.{◌≡◌, ℕ, ◌+◌, ◌-◌, ◌<◌, Bool, true, false, cond, ◌&&◌, ◌==◌, Option, None, Some, List, refl, sym, ap, ◌∙◌, arith}
+use Rattle.std.specs.Bool.{Decides}
 use Rattle.std.specs.Cmp.Lexicographic.{bytes_decides}
 use Rattle.std.specs.Option.{IfSome, option_map_or}
 use Rattle.std.proofs.lemmas.Bool.Decides.{Decides-eqb, Decides-ltb}
@@ -10,8 +10,6 @@ use Rattle.al_base.specs.declared.operator.OperatorState.{OperatorState}
 use Rattle.al_base.specs.declared.operator.OperatorState.TheVariants.{None0, Ack, Closed, Shelved, UnShelved}
 use Rattle.al_base.specs.declared.severity.Severity.{Severity}
 use Rattle.al_base.specs.declared.severity.Severity.TheVariants.{Indeterminate, Warning, Minor, Major, Critical}
-use Rattle.al_ids.specs.Matches.{Matches}
-use Rattle.al_ids.specs.Matching.{matches}
 use Rattle.al_ids.specs.declared.key.AlarmKey.{AlarmKey}
 use Rattle.al_ids.proofs.MatchingLaws.{decides_match}
 use Rattle.al_select.specs.Filters.{Facts, compress_takes, has_clearance, is_by, is_older, operator_of, purge_takes, same_state, same_text, stands, state_number, state_of}

@@ -1,5 +1,5 @@
 -- What it means to be taken by a filter.
-use Rattle.std.specs.Prelude.{◌≡◌, ℕ, ◌+◌, ◌<◌, ⊤, Bool, true, false, IfSome, Some, List}
+use Rattle.std.specs.Prelude.{◌≡◌, ℕ, ◌+◌, ◌<◌, ⊤, Bool, true, false, IfSome, Some}
 use Rattle.al_base.specs.Names.{rank_of}
 use Rattle.al_base.specs.declared.severity.Severity.{Severity}
 use Rattle.al_ids.specs.Matches.{Matches}

@@ -1,5 +1,5 @@
 -- What putting a shelf and leaving one out makes of a list of shelves.
-use Rattle.std.proofs.Common.{◌≡◌, ◌≢◌, ℕ, ◌+◌, ◌<◌, ◌≤◌, Bool, true, false, not, cond, ltb, inl, inr, List, [], length, get_or, refl, sym, ◌∙◌, ap, subst, arith}
+use Rattle.std.proofs.Common.{◌≡◌, ◌≢◌, ℕ, ◌+◌, ◌<◌, ◌≤◌, Bool, true, false, not, cond, ltb, inl, inr, List, [], length, get_or, refl, sym, ◌∙◌, ap, arith}
 use Rattle.std.proofs.lemmas.Bool.{false≢true, ltb-false, not-true}
 use Rattle.std.proofs.lemmas.List.Edits.{length-insert, length-remove}
 use Rattle.std.proofs.lemmas.List.Elements.{filter_passes}
@@ -9,14 +9,12 @@ use Rattle.std.proofs.lemmas.List.Kept.{AllPairs-filter}
 use Rattle.std.proofs.lemmas.List.Quantifiers.{position-Some}
 use Rattle.std.proofs.lemmas.List.Sums.{fails_before_first, position_or_len_is}
 use Rattle.std.proofs.lemmas.Option.{none-some, same_Some, slice_get_past, slice_get-get_or}
-use Rattle.std.specs.List.{All, AllPairs, insert, remove, position_or_len}
+use Rattle.std.specs.List.{All, insert, remove, position_or_len}
 use Rattle.std.specs.Option.{option_map}
-use Rattle.std.specs.Prelude.{◌⊎◌, IsSome, Option, None, Some, Result, Ok, Err, unwrap_or, slice_get, suc}
+use Rattle.std.specs.Prelude.{◌⊎◌, IsSome, Option, None, Some, unwrap_or, slice_get, suc}
 use lib.Pointwise.{bytes_decides}
 use Rattle.al_base.specs.Limits.{most_shelves}
 use Rattle.al_shelf.specs.Places.{AreShelves, is_named, place_of, shelf_of, without, place_for}
-use Rattle.al_shelf.specs.declared.fault.ShelfFault.{ShelfFault}
-use Rattle.al_shelf.specs.declared.fault.ShelfFault.TheVariants.{TooMany, Memory}
 use Rattle.al_shelf.specs.declared.shelf.Shelf.{Shelf}
 use Rattle.al_shelf.specs.declared.spot.Spot.{Spot}
 use Rattle.al_shelf.specs.declared.spot.Spot.TheVariants.{First, Last, Before, After, Keep}

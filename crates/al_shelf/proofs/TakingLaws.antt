@@ -1,8 +1,8 @@
 -- The functions say what the relations say: which shelf takes a key.
-use Rattle.std.proofs.Common.{◌≡◌, ℕ, ◌+◌, ◌<◌, zero, suc, Bool, true, false, cond, ◌||◌, ◌&&◌, ◌⊎◌, inl, inr, List, [], ◌∷◌, length, get_or, ltb, ◌≤◌, refl, sym, ap, ◌∙◌, arith}
+use Rattle.std.proofs.Common.{◌≡◌, ℕ, ◌+◌, ◌<◌, suc, Bool, true, false, cond, inl, inr, List, [], ◌∷◌, length, get_or, ltb, ◌≤◌, refl, sym, ap, ◌∙◌, arith}
 use Rattle.std.specs.Bool.{Decides}
 use Rattle.std.specs.List.{Any, list_any, position_or_len}
-use Rattle.std.specs.Option.{option_and_then, option_map}
+use Rattle.std.specs.Option.{option_and_then}
 use Rattle.std.specs.Prelude.{◌==◌, Option, Some, None, chars, find, position, slice_get}
 use Rattle.std.proofs.Math.Nat.{eq-or-lt_of_le}
 use Rattle.std.proofs.lemmas.Bool.{eqb-true, false≢true, le-ltb, lt-ltb, ltb-false}
@@ -21,7 +21,7 @@ use Rattle.al_types.specs.Faults.{IsSound}
 use Rattle.al_types.specs.Inventories.{InventoryView, derives_from}
 use Rattle.al_types.proofs.Heirs.{derives_decides}
 use Rattle.al_shelf.proofs.Puts.{bare, none_within}
-use Rattle.al_shelf.specs.Takes.{IsFirstShelf, IsOfType, Takes, TakesAt, TakesResource, TakesType}
+use Rattle.al_shelf.specs.Takes.{IsFirstShelf, IsOfType, Takes}
 use Rattle.al_shelf.specs.Taking.{first_shelf, is_empty, is_of_type, takes, takes_resource, takes_type}
 use Rattle.al_shelf.specs.declared.shelf.Shelf.{Shelf}
 use Rattle.al_shelf.specs.declared.shelf.TypeMatch.{TypeMatch}

@@ -1,9 +1,9 @@
 -- The tests of sameness hold exactly where two values are one, which the laws of equality cite.
-use Rattle.std.proofs.Common.{◌≡◌, Bool, true, false, Option, None, Some, List, ap, refl}
+use Rattle.std.proofs.Common.{◌≡◌, false, Option, None, Some, List, ap, refl}
 use Rattle.std.specs.Bool.{Decides}
 use Rattle.std.specs.Cmp.Lexicographic.{bytes_decides, pointwise, pointwise_decides}
 use Rattle.std.specs.Option.{option_eq}
-use Rattle.std.specs.Prelude.{◌==◌, ◌&&◌, ℕ}
+use Rattle.std.specs.Prelude.{◌==◌, ℕ}
 use Rattle.std.proofs.lemmas.Bool.{false≢true}
 use Rattle.std.proofs.lemmas.Bool.Decides.{Decides-and, Decides-like}
 use Rattle.al_shelf.specs.Same.{same_shelf, same_spot, same_type_match}

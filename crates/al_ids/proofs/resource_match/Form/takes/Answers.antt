@@ -1,5 +1,4 @@
-use Rattle.std.proofs.Common.{◌≡◌, ap, sym, ◌∙◌}
-use Rattle.al_ids.specs.MatchForms.{text_of}
+use Rattle.std.proofs.Common.{◌∙◌}
 use Rattle.al_ids.proofs.MatchKinds.{path_refused, oid_moved, oid_refused, plain_refused}
 use Rattle.al_ids.proofs.resource_match.Form.takes.Goals as goal
 

@@ -1,4 +1,4 @@
-use Rattle.std.proofs.Common.{◌≡◌, ◌+◌, ◌<◌, ap, ◌∙◌, sym, arith}
+use Rattle.std.proofs.Common.{◌+◌, ◌<◌, ap, ◌∙◌, sym, arith}
 use Rattle.std.specs.VecDeque.{deque_capacity, deque_len}
 use Rattle.al_notify.proofs.Keeping.{keeps, put_last}
 use Rattle.al_notify.proofs.log.NoteLog.append.Goals as goal

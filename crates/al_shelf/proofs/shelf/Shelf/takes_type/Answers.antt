@@ -1,4 +1,4 @@
-use Rattle.std.proofs.Common.{◌≡◌, ◌||◌, ℕ, Bool, List, false, length, rules, ap, sym, ◌∙◌, tests}
+use Rattle.std.proofs.Common.{◌≡◌, ◌||◌, Bool, false, length, rules, ap, sym, ◌∙◌, tests}
 use Rattle.std.specs.List.{list_any}
 use Rattle.std.specs.Prelude.{◌==◌}
 use Rattle.std.proofs.lemmas.Iterator.{YieldsList-from_slice}

@@ -1,6 +1,6 @@
 use Rattle.std.proofs.Common.{◌≡◌, ℕ, ◌<◌, List, length, refl, arith, ap, sym, subst, ◌∙◌}
 use Rattle.std.proofs.lemmas.Option.{slice_get_read}
-use Rattle.std.specs.Prelude.{find, position, slice_get, Some, None}
+use Rattle.std.specs.Prelude.{find, position, slice_get}
 use Rattle.al_shelf.specs.Takes.{TakesAt}
 use Rattle.al_shelf.specs.Taking.{takes}
 use Rattle.al_shelf.specs.declared.shelf.Shelf.{Shelf}

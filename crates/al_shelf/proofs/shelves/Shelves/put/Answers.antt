@@ -1,7 +1,6 @@
-use Rattle.std.proofs.Common.{refl, ◌≡◌, ◌<◌, ◌≤◌, ◌+◌, ◌-◌, Bool, cond, List, length, sym, ◌∙◌, ap, subst, arith}
+use Rattle.std.proofs.Common.{refl, ◌≡◌, ◌<◌, ◌+◌, ◌-◌, Bool, cond, List, length, sym, ◌∙◌, ap, subst, arith}
 use Rattle.std.specs.List.{insert}
 use Rattle.std.specs.Vec.{vec_capacity, vec_len}
-use Rattle.al_base.specs.Limits.{most_shelves}
 use Rattle.al_shelf.specs.Places.{AreShelves, without}
 use Rattle.al_shelf.specs.declared.shelf.Shelf.{Shelf}
 use Rattle.al_shelf.proofs.Puts.{inserted_sound, room_left}
