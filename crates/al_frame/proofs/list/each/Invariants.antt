@@ -1,0 +1,8 @@
+use Rattle.std.proofs.Common.{◌≡◌, ◌-◌, ◌++◌, Ok}
+use Rattle.al_frame.specs.Formats.{and_then, each_at}
+use Rattle.al_frame.proofs.list.each.Given as goal
+
+abbrev pub invariant-loop : goal.invariant-loop
+invariant-loop g l =
+    each_at g.F.Field.format.read l.count l.n l.bytes
+    ≡ and_then (each_at g.F.Field.format.read (l.count - l.counter) l.n l.rest) (λ xs. Ok (l.values.items ++ xs.0, xs.1))
