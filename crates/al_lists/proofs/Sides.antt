@@ -1,0 +1,164 @@
+-- The places of a side.
+use Rattle.std.proofs.Common.{◌≡◌, ℕ, zero, suc, ◌+◌, ◌≤◌, Bool, true, false, cond, not, List, [], ◌∷◌, ◌++◌, length, map, Option, None, Some, refl, ap, sym, ◌∙◌, subst, arith}
+use Rattle.std.specs.List.{AllByRecursion, filter, find, slice_get, slice_set}
+use Rattle.std.specs.Option.{is_some, option_and_then, option_map}
+use Rattle.std.specs.Ordering.{is_eq}
+use Rattle.std.proofs.lemmas.List.{map-append}
+use Rattle.std.proofs.lemmas.Option.{slice_get-map}
+use Rattle.al_base.specs.declared.operator.OperatorState.{OperatorState}
+use Rattle.al_base.specs.declared.operator.OperatorState.TheVariants.{None0, Ack, Closed, Shelved, UnShelved}
+use Rattle.al_base.specs.declared.text.Text.{Text}
+use Rattle.al_ids.specs.declared.key.AlarmKey.{AlarmKey}
+use Rattle.al_model.specs.Alarms.{alarm_of, is_of}
+use Rattle.al_model.specs.State.{AlarmState, State, is_listed, is_shelved, shelf_name}
+use Rattle.al_model.specs.Validity.{IsMarked, shelved_by, shelving}
+use Rattle.al_model.specs.declared.entry.OperatorEntry.{OperatorEntry}
+use Rattle.al_model.proofs.Moves.{of_key}
+use Rattle.al_lists.specs.Places.{places_of}
+use Rattle.al_lists.specs.Views.{AlarmView, is_at, is_marked, is_unmarked, mark_of, marked, states}
+use Rattle.al_model.specs.State.{alarms_on, is_on, listed, shelved}
+use Rattle.al_model.specs.Validity.{IsValid}
+use Rattle.al_model.specs.declared.event.Side.{Side}
+use Rattle.al_model.specs.declared.event.Side.TheVariants as sides
+use Rattle.al_model.proofs.Validity.{marked_alarms}
+
+-- ---- what stands at the places
+
+-- the alarm at the i-th place of a side is the i-th of the side
+pub at_side : (p : AlarmState → Bool) (views : List AlarmView) (i : ℕ) → option_map (λ v. v.state) (option_and_then (slice_get views) (slice_get (places_of p (states views)) i)) ≡ slice_get (filter p (states views)) i
+at_side p [] i = refl
+at_side p (v ∷ views) i = by (at_side p views) (p v.state) i
+  where
+    rest : List ℕ
+    rest = places_of p (states views)
+
+    further : List AlarmState
+    further = filter p (states views)
+
+    over : (o : Option ℕ) → option_map (λ w. w.state) (option_and_then (slice_get (v ∷ views)) (option_map suc o)) ≡ option_map (λ w. w.state) (option_and_then (slice_get views) o)
+    over None = refl
+    over (Some k) = refl
+
+    shifted : ((i : ℕ) → option_map (λ w. w.state) (option_and_then (slice_get views) (slice_get rest i)) ≡ slice_get further i) → (i : ℕ) → option_map (λ w. w.state) (option_and_then (slice_get (v ∷ views)) (slice_get (map suc rest) i)) ≡ slice_get further i
+    shifted more i = ap (λ o. option_map (λ w. w.state) (option_and_then (slice_get (v ∷ views)) o)) (slice_get-map suc rest i) ∙ over (slice_get rest i) ∙ more i
+
+    by : ((i : ℕ) → option_map (λ w. w.state) (option_and_then (slice_get views) (slice_get rest i)) ≡ slice_get further i) → (b : Bool) (i : ℕ) → option_map (λ w. w.state) (option_and_then (slice_get (v ∷ views)) (slice_get (cond b (0 ∷ map suc rest) (map suc rest)) i)) ≡ slice_get (cond b (v.state ∷ further) further) i
+    by more true zero = refl
+    by more true (suc i) = shifted more i
+    by more false i = shifted more i
+
+length-map : {X Y : Type 0} (f : X → Y) (xs : List X) → length (map f xs) ≡ length xs
+length-map f [] = refl
+length-map f (x ∷ xs) = ap suc (length-map f xs)
+
+pub count_side : {X : Type 0} (p : X → Bool) (xs : List X) → length (places_of p xs) ≡ length (filter p xs)
+count_side p [] = refl
+count_side {X} p (x ∷ xs) = by (p x) (length-map suc (places_of p xs) ∙ count_side p xs)
+  where
+    by : (b : Bool) → length (map suc (places_of p xs)) ≡ length (filter p xs) → length (cond b (0 ∷ map suc (places_of p xs)) (map suc (places_of p xs))) ≡ length (cond b (x ∷ filter p xs) (filter p xs))
+    by true e = ap suc e
+    by false e = e
+
+-- ---- marks
+
+shelving_marks : (state : OperatorState) (text : Option Text) (name : Option Text) → shelving state text ≡ option_map Some name → marked state text ≡ name
+shelving_marks None0 text None h = refl
+shelving_marks None0 text (Some name) h = absurd (cc)
+shelving_marks Ack text None h = refl
+shelving_marks Ack text (Some name) h = absurd (cc)
+shelving_marks Closed text None h = refl
+shelving_marks Closed text (Some name) h = absurd (cc)
+shelving_marks Shelved text None h = absurd (cc)
+shelving_marks Shelved text (Some name) h = cc
+shelving_marks UnShelved text None h = refl
+shelving_marks UnShelved text (Some name) h = absurd (cc)
+
+marks_name : (operators : List OperatorEntry) (name : Option Text) → shelved_by operators ≡ option_map Some name → mark_of operators ≡ name
+marks_name [] None h = refl
+marks_name [] (Some name) h = absurd (cc)
+marks_name (e ∷ rest) name h = shelving_marks e.state e.text name h
+
+-- the mark of an alarm is the name of its first shelf
+pub mark_is : (s : State) (a : AlarmState) → IsMarked s a → mark_of a.operators ≡ shelf_name s a.key
+mark_is s a h = marks_name a.operators (shelf_name s a.key) h
+
+pub filter_like : {X : Type 0} (p q : X → Bool) (xs : List X) → AllByRecursion (λ x. p x ≡ q x) xs → filter p xs ≡ filter q xs
+filter_like p q [] h = refl
+filter_like p q (x ∷ xs) h =
+    ap (λ b. cond b (x ∷ filter p xs) (filter p xs)) h.0 ∙ ap (λ ys. cond (q x) (x ∷ ys) ys) (filter_like p q xs h.1)
+
+pub marks_shelve : (s : State) (alarms : List AlarmState) → AllByRecursion (IsMarked s) alarms → AllByRecursion (λ a. is_marked a ≡ is_shelved s a.key) alarms
+marks_shelve s [] h = tt
+marks_shelve s (a ∷ rest) h = (ap is_some (mark_is s a h.0), marks_shelve s rest h.1)
+
+pub marks_list : (s : State) (alarms : List AlarmState) → AllByRecursion (IsMarked s) alarms → AllByRecursion (λ a. is_unmarked a ≡ is_listed s a.key) alarms
+marks_list s [] h = tt
+marks_list s (a ∷ rest) h = (ap (λ o. not (is_some o)) (mark_is s a h.0), marks_list s rest h.1)
+
+-- ---- the alarm of a key on a side
+
+-- It is the one of all, if that is on the side.
+pub find_side : (p : AlarmKey → Bool) (key : AlarmKey) (alarms : List AlarmState) → alarm_of key (filter (λ a. p a.key) alarms) ≡ cond (p key) (alarm_of key alarms) None
+find_side p key [] = by (p key)
+  where
+    by : (b : Bool) → None ≡ cond b (alarm_of key []) None
+    by true = refl
+    by false = refl
+find_side p key (x ∷ xs) = by (is_of key x) refl (p x.key) refl (find_side p key xs)
+  where
+    none : (b : Bool) → p key ≡ b → alarm_of key (filter (λ a. p a.key) xs) ≡ cond (p key) (alarm_of key xs) None → b ≡ false → alarm_of key (filter (λ a. p a.key) xs) ≡ cond (p key) (Some x) None
+    none b is more out = more ∙ ap (λ c. cond c (alarm_of key xs) None) (is ∙ out) ∙ sym (ap (λ c. cond c (Some x) None) (is ∙ out))
+
+    by : (of : Bool) → is_of key x ≡ of → (on : Bool) → p x.key ≡ on → alarm_of key (filter (λ a. p a.key) xs) ≡ cond (p key) (alarm_of key xs) None → alarm_of key (cond on (x ∷ filter (λ a. p a.key) xs) (filter (λ a. p a.key) xs)) ≡ cond (p key) (cond of (Some x) (alarm_of key xs)) None
+    by true is true on more =
+        let here : p key ≡ true = sym (ap p (of_key key x is)) ∙ on in
+        ap (λ b. cond b (Some x) (alarm_of key (filter (λ a. p a.key) xs))) is ∙ sym (ap (λ c. cond c (Some x) None) here)
+    by true is false on more = none (p key) refl more (sym (ap p (of_key key x is)) ∙ on)
+    by false is true on more = ap (λ b. cond b (Some x) (alarm_of key (filter (λ a. p a.key) xs))) is ∙ more
+    by false is false on more = more
+
+-- ---- the sides of a valid state
+
+pub listed_is : (s : State) → IsValid s → filter is_unmarked s.alarms ≡ listed s
+listed_is s v = filter_like is_unmarked (λ a. is_listed s a.key) s.alarms (marks_list s s.alarms (marked_alarms s v))
+
+pub shelved_is : (s : State) → IsValid s → filter is_marked s.alarms ≡ shelved s
+shelved_is s v = filter_like is_marked (λ a. is_shelved s a.key) s.alarms (marks_shelve s s.alarms (marked_alarms s v))
+
+found_has : {X : Type 0} (P : X → Type 0) (p : X → Bool) (xs : List X) (x : X) → AllByRecursion P xs → find p xs ≡ Some x → P x × (p x ≡ true)
+found_has P p [] x h is = absurd (cc)
+found_has {X} P p (y ∷ ys) x h is = by (p y) refl is (found_has P p ys x h.1)
+  where
+    by : (b : Bool) → p y ≡ b → cond b (Some y) (find p ys) ≡ Some x → (find p ys ≡ Some x → P x × (p x ≡ true)) → P x × (p x ≡ true)
+    by true passes e more = let first : y ≡ x = cc in (subst P first h.0, subst (λ z. p z ≡ true) first passes)
+    by false passes e more = more e
+
+at_is_on : (s : State) (side : Side) (a : AlarmState) → IsMarked s a → is_at side a ≡ is_on s side a.key
+at_is_on s sides.List a h = ap (λ o. not (is_some o)) (mark_is s a h)
+at_is_on s sides.Shelf a h = ap is_some (mark_is s a h)
+
+-- the alarm of a key, if it is on the side
+abbrev pub if_at : Side → Option AlarmState → Option AlarmState
+if_at side found = option_and_then (λ a. cond (is_at side a) (Some a) None) found
+
+pub states_at : (side : Side) (found : Option AlarmView) → option_map (λ v. v.state) (option_and_then (λ v. cond (is_at side v.state) (Some v) None) found) ≡ if_at side (option_map (λ v. v.state) found)
+states_at side None = refl
+states_at side (Some v) = by (is_at side v.state)
+  where
+    by : (b : Bool) → option_map (λ w. w.state) (cond b (Some v) None) ≡ cond b (Some v.state) None
+    by true = refl
+    by false = refl
+
+either_same : {X : Type 0} (b : Bool) (x : X) → x ≡ cond b x x
+either_same true x = refl
+either_same false x = refl
+
+pub alarm_on : (s : State) (side : Side) (key : AlarmKey) → IsValid s → if_at side (alarm_of key s.alarms) ≡ alarm_of key (alarms_on s side)
+alarm_on s side key valid = by (alarm_of key s.alarms) refl ∙ sym (find_side (is_on s side) key s.alarms)
+  where
+    by : (o : Option AlarmState) → alarm_of key s.alarms ≡ o → if_at side (alarm_of key s.alarms) ≡ cond (is_on s side key) (alarm_of key s.alarms) None
+    by None is = subst (λ o. if_at side o ≡ cond (is_on s side key) o None) (sym is) (either_same (is_on s side key) (if_at side None))
+    by (Some a) is =
+        let has = found_has (IsMarked s) (is_of key) s.alarms a (marked_alarms s valid) is in
+        let same : is_at side a ≡ is_on s side key = at_is_on s side a has.0 ∙ ap (is_on s side) (of_key key a has.1) in
+        subst (λ o. if_at side o ≡ cond (is_on s side key) o None) (sym is) (ap (λ b. cond b (Some a) None) same)
