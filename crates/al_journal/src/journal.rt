@@ -3,7 +3,7 @@
 ghost use Rattle.std.specs.Prelude.{◌≡◌, ◌<◌, ◌≤◌, ◌+◌, ℕ, List, true, false, length, take, Ok, Err, IsOk, IfOk, IfErr, MatchResult, OnErr, ◌↔◌};
 ghost use Rattle.al_base.specs.Outside.{Rose};
 ghost use Rattle.al_disk.specs.States.{Told, Goes};
-ghost use Rattle.al_journal.specs.Format.{gate_of};
+ghost use Rattle.al_journal.specs.Format.{IsCapacity, gate_of};
 ghost use Rattle.al_journal.specs.Images.{Shows};
 ghost use Rattle.al_journal.specs.Walks.{Opens, Refuses, LeavesAsBefore, IsNext};
 ghost use Rattle.al_journal.specs.Views.{Stands, InDoubt};
@@ -49,6 +49,7 @@ impl<D: Disk> Journal<D> {
     /// gate. `NotAJournal` comes exactly where the disk begins with no whole birth, `TornLength` exactly where its walk ends so. The disk comes back.
     pub fn open(alloc: Global, disk: D) -> Result<Journal<D>, (D, OpenFault)>
         ensures opens { IfOk result (λ journal. Goes (λ s t. Opens journal.capacity journal.gate s t) (D.told disk) (D.told journal.disk)) }
+        ensures allowed { IfOk result (λ journal. IsCapacity journal.capacity × (journal.gate < journal.capacity)) }
         ensures start { IfOk result (λ journal. (journal.next ≡ 13) × (journal.count ≡ 0) × (journal.doubt ≡ false)) }
         ensures refuses { IfErr result (λ refusal. Goes (λ s t. Refuses refusal.1 s t) (D.told disk) (D.told refusal.0)) }
         ensures moments { MatchResult result (λ journal. Goes LeavesAsBefore (D.told disk) (D.told journal.disk)) (λ refusal. Goes LeavesAsBefore (D.told disk) (D.told refusal.0)) }
@@ -83,6 +84,7 @@ impl<D: Disk> Journal<D> {
         ensures refused { OnErr result (self.new ≡ record self.old { disk = self.new.disk }) }
         ensures torn { (count : ℕ) → result ≡ Err (OpenFault.TornLength count) → count ≡ self.old.count }
         ensures no_birth { result ≡ Err OpenFault.NotAJournal → ⊥ }
+        ensures room { self.new.next < self.new.capacity }
         ensures same { D.told self.new.disk ≡ D.told self.old.disk }
         ensures later { D.faults self.old.disk ≤ D.faults self.new.disk }
         ensures cause { result ≡ Err OpenFault.Disk → Rose (D.faults self.old.disk) (D.faults self.new.disk) }
@@ -127,8 +129,9 @@ impl<D: Disk> Journal<D> {
         if end >= self.capacity {
             return Err(CommitFault::Full);
         }
+        let bytes = piece.piece();
         self.block.forget();
-        write_durably(&mut self.disk, self.gate + 1, piece.piece())?;
+        write_durably(&mut self.disk, self.gate + 1, bytes)?;
         self.doubt = true;
         write_durably(&mut self.disk, self.gate, &[1])?;
         self.doubt = false;
@@ -183,14 +186,16 @@ impl<D: Disk> Journal<D> {
 
     /// How many bytes of the capacity are used: all up to the gate, and the gate.
     pub fn used(&self) -> u64
-        ensures { result ≡ self.now.gate + 1 }
+        ensures used { result ≡ self.now.gate + 1 }
+        ensures within { result ≤ self.now.capacity }
     {
         self.gate + 1
     }
 
     /// How many bytes birth, records and gates may have together.
     pub fn capacity(&self) -> u64
-        ensures { result ≡ self.now.capacity }
+        ensures capacity { result ≡ self.now.capacity }
+        ensures allowed { IsCapacity result }
     {
         self.capacity
     }
