@@ -1,10 +1,7 @@
 //! The tables of the alarm list: what is known after a history, kept so that reads are quick and a change can't fail half way.
 #![tactic(auto)]
 
-pub mod alarm;
-mod contents;
-mod places;
 pub mod tables;
 
-pub use alarm::Alarm;
+pub use al_alarms::Alarm;
 pub use tables::Tables;

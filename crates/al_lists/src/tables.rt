@@ -4,9 +4,7 @@ ghost use Rattle.al_model.specs.Alarms.{alarm_of};
 ghost use Rattle.al_model.specs.State.{listed, shelved, start};
 ghost use Rattle.al_model.specs.Validity.{IsValid};
 
-use crate::alarm::Alarm;
-use crate::contents::Contents;
-use crate::places::if_at;
+use al_alarms::{Alarm, Contents, if_at};
 use al_base::Stamp;
 use al_ids::AlarmKey;
 use al_model::Side;
@@ -25,7 +23,7 @@ pub struct Tables {
 
 impl Model for Tables {
     ghost use Rattle.al_model.specs.Validity.{IsValid};
-    ghost use Rattle.al_lists.specs.Tables.{TablesView};
+    ghost use Rattle.al_alarms.specs.Tables.{TablesView};
 
     ghost Value = { TablesView };
 
@@ -97,48 +95,48 @@ impl Tables {
     pub fn max(&self) -> Option<u16>
         ensures { result ≡ self.now.state.max }
     {
-        self.contents.max
+        self.contents.max()
     }
 
     /// Which status changes are told.
     pub fn rule(&self) -> &NotifyRule
         ensures { result.now ≡ self.now.state.rule }
     {
-        &self.contents.rule
+        self.contents.rule()
     }
 
     /// The shelves in their order.
     pub fn shelves(&self) -> &Shelves
         ensures { result.now.shelves ≡ self.now.state.shelves }
     {
-        &self.contents.shelves
+        self.contents.shelves()
     }
 
     /// What alarms the device may raise, once that is declared.
     pub fn inventory(&self) -> Option<&Inventory>
         ensures { option_copied result ≡ self.now.state.inventory }
     {
-        self.contents.inventory.as_ref()
+        self.contents.inventory()
     }
 
     /// The notifications that were sent.
     pub fn log(&self) -> &NoteLog
         ensures { result.now ≡ self.now.state.log }
     {
-        &self.contents.log
+        self.contents.log()
     }
 
     /// When the alarms of the list last changed in anything (RFC 8632, `last-changed` of the list).
     pub fn list_changed(&self) -> Option<Stamp>
         ensures { result ≡ self.now.state.list_time }
     {
-        self.contents.list_time
+        self.contents.list_changed()
     }
 
     /// When the alarms on shelves last changed in anything (RFC 8632, `shelved-alarms-last-changed`).
     pub fn shelf_changed(&self) -> Option<Stamp>
         ensures { result ≡ self.now.state.shelf_time }
     {
-        self.contents.shelf_time
+        self.contents.shelf_changed()
     }
 }

@@ -1,8 +1,8 @@
 use Rattle.std.proofs.Common.{◌≡◌, ap, ◌∙◌, length, rules}
 use Rattle.std.specs.List.{filter}
-use Rattle.al_lists.specs.Views.{is_unmarked, states}
-use Rattle.al_lists.proofs.Sides.{count_side}
-use Rattle.al_lists.proofs.contents.Contents.listed_count.Goals as goal
+use Rattle.al_alarms.specs.Views.{is_unmarked, states}
+use Rattle.al_alarms.proofs.Sides.{count_side}
+use Rattle.al_alarms.proofs.contents.Contents.listed_count.Goals as goal
 
 pub returns : goal.returns
 returns c =

@@ -15,8 +15,8 @@ use Rattle.al_model.specs.Alarms.{alarm_of, with_newcomer}
 use Rattle.al_model.specs.State.{AlarmState}
 use Rattle.al_model.specs.Validity.{IsInOrder}
 use Rattle.al_model.proofs.Order.{keys_total, turned}
-use Rattle.al_lists.specs.Positions.{IsAbsentAt, IsKnownAt, IsPositionOf}
-use Rattle.al_lists.specs.Views.{AlarmView, states}
+use Rattle.al_alarms.specs.Positions.{IsAbsentAt, IsKnownAt, IsPositionOf}
+use Rattle.al_alarms.specs.Views.{AlarmView, states}
 
 -- the alarms below a key, and those above it
 abbrev below : AlarmKey → List AlarmState → List AlarmState

@@ -1,8 +1,8 @@
 use Rattle.std.proofs.Common.{ap, sym, ◌∙◌}
 use Rattle.std.specs.Option.{option_map}
 use Rattle.std.proofs.lemmas.Option.{slice_get-map}
-use Rattle.al_lists.specs.Views.{AlarmView}
-use Rattle.al_lists.proofs.places.find.Goals as goal
+use Rattle.al_alarms.specs.Views.{AlarmView}
+use Rattle.al_alarms.proofs.places.find.Goals as goal
 
 pub returns-in-Ok : goal.returns-in-Ok
 returns-in-Ok c =

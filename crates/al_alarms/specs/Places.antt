@@ -1,6 +1,6 @@
 -- Where the alarms of each side stand among all.
 use Rattle.std.specs.Prelude.{◌≡◌, ℕ, suc, Bool, cond, List, [], ◌∷◌, map}
-use Rattle.al_lists.specs.Views.{AlarmView, is_marked, is_unmarked, states}
+use Rattle.al_alarms.specs.Views.{AlarmView, is_marked, is_unmarked, states}
 
 -- the places of those that pass the test
 abbrev pub places_of : {X : Type 0} → (X → Bool) → List X → List ℕ

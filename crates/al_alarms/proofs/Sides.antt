@@ -14,8 +14,8 @@ use Rattle.al_model.specs.State.{AlarmState, State, is_listed, is_shelved, shelf
 use Rattle.al_model.specs.Validity.{IsMarked, shelved_by, shelving}
 use Rattle.al_model.specs.declared.entry.OperatorEntry.{OperatorEntry}
 use Rattle.al_model.proofs.Moves.{of_key}
-use Rattle.al_lists.specs.Places.{places_of}
-use Rattle.al_lists.specs.Views.{AlarmView, is_at, is_marked, is_unmarked, mark_of, marked, states}
+use Rattle.al_alarms.specs.Places.{places_of}
+use Rattle.al_alarms.specs.Views.{AlarmView, is_at, is_marked, is_unmarked, mark_of, marked, states}
 use Rattle.al_model.specs.State.{alarms_on, is_on, listed, shelved}
 use Rattle.al_model.specs.Validity.{IsValid}
 use Rattle.al_model.specs.declared.event.Side.{Side}

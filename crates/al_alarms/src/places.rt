@@ -2,8 +2,8 @@ ghost use Rattle.std.specs.Option.{option_and_then, option_copied, option_map};
 ghost use Rattle.std.specs.Prelude.{◌≡◌, None, Some, cond, slice_get};
 ghost use Rattle.al_model.specs.Alarms.{alarm_of};
 ghost use Rattle.al_model.specs.Validity.{IsInOrder};
-ghost use Rattle.al_lists.specs.Positions.{IsPositionOf};
-ghost use Rattle.al_lists.specs.Views.{is_at, states};
+ghost use Rattle.al_alarms.specs.Positions.{IsPositionOf};
+ghost use Rattle.al_alarms.specs.Views.{is_at, states};
 
 use crate::alarm::Alarm;
 use al_ids::AlarmKey;
@@ -18,7 +18,7 @@ fn position_of(alarms: &[Alarm], key: &AlarmKey) -> Result<usize, usize>
 }
 
 /// The alarm of the key.
-pub(crate) fn find<'a>(alarms: &'a [Alarm], key: &AlarmKey) -> Option<&'a Alarm>
+pub fn find<'a>(alarms: &'a [Alarm], key: &AlarmKey) -> Option<&'a Alarm>
     requires { IsInOrder (states alarms.now) }
     ensures { option_map (λ v. v.state) (option_copied result) ≡ alarm_of key.now (states alarms.now) }
 {
@@ -29,7 +29,7 @@ pub(crate) fn find<'a>(alarms: &'a [Alarm], key: &AlarmKey) -> Option<&'a Alarm>
 }
 
 /// The alarm at the place that stands at this one of the places.
-pub(crate) fn at_side<'a>(alarms: &'a [Alarm], places: &[usize], i: usize) -> Option<&'a Alarm>
+pub fn at_side<'a>(alarms: &'a [Alarm], places: &[usize], i: usize) -> Option<&'a Alarm>
     ensures { option_copied result ≡ option_and_then (slice_get alarms.now) (slice_get places.now i) }
 {
     match place_at(places, i) {
@@ -51,7 +51,7 @@ fn place_at(places: &[usize], i: usize) -> Option<usize>
 }
 
 /// The alarm, if it is on this side.
-pub(crate) fn if_at(found: Option<&Alarm>, side: Side) -> Option<&Alarm>
+pub fn if_at(found: Option<&Alarm>, side: Side) -> Option<&Alarm>
     ensures { option_copied result ≡ option_and_then (λ v. cond (is_at side v.state) (Some v) None) (option_copied found.entry) }
 {
     match found {

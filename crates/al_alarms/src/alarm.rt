@@ -1,7 +1,7 @@
 ghost use Rattle.std.specs.Option.{option_copied};
 ghost use Rattle.std.specs.Prelude.{◌≡◌, length, slice_get};
 ghost use Rattle.al_ids.specs.Keys.{key_cmp};
-ghost use Rattle.al_lists.specs.Views.{is_at, is_marked, mark_of, marked};
+ghost use Rattle.al_alarms.specs.Views.{is_at, is_marked, mark_of, marked};
 
 use al_base::{OperatorState, Severity, Stamp, Text};
 use al_ids::AlarmKey;
@@ -26,7 +26,7 @@ pub struct Alarm {
 
 impl Model for Alarm {
     ghost use Rattle.std.specs.Prelude.{◌≡◌, Some};
-    ghost use Rattle.al_lists.specs.Views.{AlarmView};
+    ghost use Rattle.al_alarms.specs.Views.{AlarmView};
 
     ghost Value = { AlarmView };
 
@@ -139,14 +139,14 @@ impl Alarm {
     }
 
     /// Whether it is on a shelf by its newest operator entry.
-    pub(crate) fn is_shelved(&self) -> bool
+    pub fn is_shelved(&self) -> bool
         ensures { result ≡ is_marked self.now.state }
     {
         self.shelf_name().is_some()
     }
 
     /// Whether it is on this side by its newest operator entry.
-    pub(crate) fn is_at(&self, side: Side) -> bool
+    pub fn is_at(&self, side: Side) -> bool
         ensures { result ≡ is_at side self.now.state }
     {
         match side {
@@ -156,7 +156,7 @@ impl Alarm {
     }
 
     /// Where it stands to the alarm of this key.
-    pub(crate) fn order(&self, key: &AlarmKey) -> Ordering
+    pub fn order(&self, key: &AlarmKey) -> Ordering
         ensures { result ≡ key_cmp self.now.state.key key.now }
     {
         self.key.cmp(key)

@@ -3,7 +3,7 @@ ghost use Rattle.std.specs.Prelude.{◌≡◌, IfOk, filter, length, slice_get};
 ghost use Rattle.al_model.specs.Alarms.{alarm_of};
 ghost use Rattle.al_model.specs.State.{start};
 ghost use Rattle.al_model.specs.Validity.{IsInOrder};
-ghost use Rattle.al_lists.specs.Views.{is_marked, is_unmarked};
+ghost use Rattle.al_alarms.specs.Views.{is_marked, is_unmarked};
 
 use crate::alarm::Alarm;
 use crate::places::{at_side, find};
@@ -17,26 +17,26 @@ use std::marker::Model;
 
 /// What the tables hold. The alarms stand in the order of their keys, and those of each side are found by their places.
 #[derive(Debug, Drop)]
-pub(crate) struct Contents {
-    pub(crate) inventory: Option<Inventory>,
-    pub(crate) max: Option<u16>,
-    pub(crate) rule: NotifyRule,
-    pub(crate) shelves: Shelves,
+pub struct Contents {
+    inventory: Option<Inventory>,
+    max: Option<u16>,
+    rule: NotifyRule,
+    shelves: Shelves,
     alarms: Vec<Alarm>,
     listed: Vec<usize>,
     shelved: Vec<usize>,
-    pub(crate) log: NoteLog,
-    pub(crate) time: Stamp,
-    pub(crate) list_time: Option<Stamp>,
-    pub(crate) shelf_time: Option<Stamp>,
+    log: NoteLog,
+    time: Stamp,
+    list_time: Option<Stamp>,
+    shelf_time: Option<Stamp>,
 }
 
 impl Model for Contents {
     ghost use Rattle.std.specs.List.{AllByRecursion};
     ghost use Rattle.std.specs.Prelude.{◌≡◌, ◌-◌, ◌≤◌, min, vec_capacity, vec_len};
-    ghost use Rattle.al_lists.specs.Places.{AreSides};
-    ghost use Rattle.al_lists.specs.Tables.{TablesView};
-    ghost use Rattle.al_lists.specs.Views.{states};
+    ghost use Rattle.al_alarms.specs.Places.{AreSides};
+    ghost use Rattle.al_alarms.specs.Tables.{TablesView};
+    ghost use Rattle.al_alarms.specs.Views.{states};
 
     ghost Value = { TablesView };
 
@@ -63,7 +63,7 @@ impl Model for Contents {
 
 impl Contents {
     /// What stands before the first entry.
-    pub(crate) fn new(alloc: Global) -> Result<Contents, AllocError>
+    pub fn new(alloc: Global) -> Result<Contents, AllocError>
         ensures { IfOk result (λ contents. contents.state ≡ start) }
     {
         Ok(Contents {
@@ -84,8 +84,64 @@ impl Contents {
         })
     }
 
+    /// What alarms the device may raise, once that is declared.
+    pub fn inventory(&self) -> Option<&Inventory>
+        ensures { option_copied result ≡ self.now.state.inventory }
+    {
+        self.inventory.as_ref()
+    }
+
+    /// How many status entries an alarm keeps, or all of them.
+    pub fn max(&self) -> Option<u16>
+        ensures { result ≡ self.now.state.max }
+    {
+        self.max
+    }
+
+    /// Which status changes are told.
+    pub fn rule(&self) -> &NotifyRule
+        ensures { result.now ≡ self.now.state.rule }
+    {
+        &self.rule
+    }
+
+    /// The shelves in their order.
+    pub fn shelves(&self) -> &Shelves
+        ensures { result.now.shelves ≡ self.now.state.shelves }
+    {
+        &self.shelves
+    }
+
+    /// The notifications that were sent.
+    pub fn log(&self) -> &NoteLog
+        ensures { result.now ≡ self.now.state.log }
+    {
+        &self.log
+    }
+
+    /// The time of the last entry.
+    pub fn time(&self) -> Stamp
+        ensures { result ≡ self.now.state.time }
+    {
+        self.time
+    }
+
+    /// When the alarms of the list last changed in anything.
+    pub fn list_changed(&self) -> Option<Stamp>
+        ensures { result ≡ self.now.state.list_time }
+    {
+        self.list_time
+    }
+
+    /// When the alarms on shelves last changed in anything.
+    pub fn shelf_changed(&self) -> Option<Stamp>
+        ensures { result ≡ self.now.state.shelf_time }
+    {
+        self.shelf_time
+    }
+
     /// The alarm of the key, on either side.
-    pub(crate) fn find(&self, key: &AlarmKey) -> Option<&Alarm>
+    pub fn find(&self, key: &AlarmKey) -> Option<&Alarm>
         requires { IsInOrder self.now.state.alarms }
         ensures { option_map (λ v. v.state) (option_copied result) ≡ alarm_of key.now self.now.state.alarms }
     {
@@ -93,7 +149,7 @@ impl Contents {
     }
 
     /// The alarm of the list at this place of it.
-    pub(crate) fn listed_at(&self, i: usize) -> Option<&Alarm>
+    pub fn listed_at(&self, i: usize) -> Option<&Alarm>
         ensures { option_map (λ v. v.state) (option_copied result) ≡ slice_get (filter is_unmarked self.now.state.alarms) i }
     {
         let alarms = self.alarms.as_slice();
@@ -102,7 +158,7 @@ impl Contents {
     }
 
     /// The alarm on a shelf at this place among those on shelves.
-    pub(crate) fn shelved_at(&self, i: usize) -> Option<&Alarm>
+    pub fn shelved_at(&self, i: usize) -> Option<&Alarm>
         ensures { option_map (λ v. v.state) (option_copied result) ≡ slice_get (filter is_marked self.now.state.alarms) i }
     {
         let alarms = self.alarms.as_slice();
@@ -111,14 +167,14 @@ impl Contents {
     }
 
     /// How many alarms are on the list.
-    pub(crate) fn listed_count(&self) -> usize
+    pub fn listed_count(&self) -> usize
         ensures { result ≡ length (filter is_unmarked self.now.state.alarms) }
     {
         self.listed.len()
     }
 
     /// How many alarms are on shelves.
-    pub(crate) fn shelved_count(&self) -> usize
+    pub fn shelved_count(&self) -> usize
         ensures { result ≡ length (filter is_marked self.now.state.alarms) }
     {
         self.shelved.len()

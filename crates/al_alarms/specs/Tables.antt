@@ -1,7 +1,7 @@
 -- What the tables show.
 use Rattle.std.specs.Prelude.{ℕ, List}
 use Rattle.al_model.specs.State.{State}
-use Rattle.al_lists.specs.Views.{AlarmView}
+use Rattle.al_alarms.specs.Views.{AlarmView}
 
 -- The state, its alarms with their rooms, and for how many more alarms memory is at hand.
 pub record TablesView : Type 0 where

@@ -1,9 +1,9 @@
 use Rattle.std.proofs.Common.{ap, ◌∙◌}
 use Rattle.std.specs.List.{filter, slice_get}
 use Rattle.std.specs.Option.{option_and_then, option_map}
-use Rattle.al_lists.specs.Views.{AlarmView, is_unmarked}
-use Rattle.al_lists.proofs.Sides.{at_side}
-use Rattle.al_lists.proofs.contents.Contents.listed_at.Goals as goal
+use Rattle.al_alarms.specs.Views.{AlarmView, is_unmarked}
+use Rattle.al_alarms.proofs.Sides.{at_side}
+use Rattle.al_alarms.proofs.contents.Contents.listed_at.Goals as goal
 
 pub returns : goal.returns
 returns c =

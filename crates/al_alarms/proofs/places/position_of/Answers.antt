@@ -1,8 +1,8 @@
 use Rattle.std.proofs.Common.{rules}
 use Rattle.std.proofs.lemmas.Fn.{always_returns_same}
 use Rattle.al_ids.specs.Keys.{key_cmp}
-use Rattle.al_lists.proofs.Positions.{position_is}
-use Rattle.al_lists.proofs.places.position_of.Goals as goal
+use Rattle.al_alarms.proofs.Positions.{position_is}
+use Rattle.al_alarms.proofs.places.position_of.Goals as goal
 
 -- the closure compares an alarm's key with this one
 pub returns : goal.returns

@@ -1,0 +1,10 @@
+//! All alarms in the order of their keys, with the places of those of each side, and changes of them that take no memory.
+#![tactic(auto)]
+
+pub mod alarm;
+pub mod contents;
+pub mod places;
+
+pub use alarm::Alarm;
+pub use contents::Contents;
+pub use places::if_at;
