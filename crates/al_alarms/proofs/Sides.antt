@@ -14,7 +14,7 @@ use Rattle.al_model.specs.State.{AlarmState, State, is_listed, is_shelved, shelf
 use Rattle.al_model.specs.Validity.{IsMarked, shelved_by, shelving}
 use Rattle.al_model.specs.declared.entry.OperatorEntry.{OperatorEntry}
 use Rattle.al_model.proofs.Moves.{of_key}
-use Rattle.al_alarms.specs.Places.{places_of}
+use Rattle.al_alarms.specs.Places.{AreSides, places_of}
 use Rattle.al_alarms.specs.Views.{AlarmView, is_at, is_marked, is_unmarked, mark_of, marked, states}
 use Rattle.al_model.specs.State.{alarms_on, is_on, listed, shelved}
 use Rattle.al_model.specs.Validity.{IsValid}
@@ -58,6 +58,41 @@ count_side {X} p (x ∷ xs) = by (p x) (length-map suc (places_of p xs) ∙ coun
     by : (b : Bool) → length (map suc (places_of p xs)) ≡ length (filter p xs) → length (cond b (0 ∷ map suc (places_of p xs)) (map suc (places_of p xs))) ≡ length (cond b (x ∷ filter p xs) (filter p xs))
     by true e = ap suc e
     by false e = e
+
+-- ---- how they are made
+
+pub places-append : {X : Type 0} (p : X → Bool) (xs : List X) (x : X) → places_of p (xs ++ x ∷ []) ≡ places_of p xs ++ cond (p x) (length xs ∷ []) []
+places-append p [] x = refl
+places-append {X} p (y ∷ ys) x = by (p y) (ap (map suc) (places-append p ys x) ∙ map-append suc (places_of p ys) (cond (p x) (length ys ∷ []) []) ∙ ap (λ zs. map suc (places_of p ys) ++ zs) (one (p x)))
+  where
+    one : (b : Bool) → map suc (cond b (length ys ∷ []) []) ≡ cond b (length (y ∷ ys) ∷ []) []
+    one true = refl
+    one false = refl
+
+    by : (b : Bool) → map suc (places_of p (ys ++ x ∷ [])) ≡ map suc (places_of p ys) ++ cond (p x) (length (y ∷ ys) ∷ []) [] → cond b (0 ∷ map suc (places_of p (ys ++ x ∷ []))) (map suc (places_of p (ys ++ x ∷ []))) ≡ cond b (0 ∷ map suc (places_of p ys)) (map suc (places_of p ys)) ++ cond (p x) (length (y ∷ ys) ∷ []) []
+    by true e = ap (λ zs. 0 ∷ zs) e
+    by false e = e
+
+-- ---- what leaves them
+
+pub places_like : {X : Type 0} (p q : X → Bool) (xs : List X) → AllByRecursion (λ x. p x ≡ q x) xs → places_of p xs ≡ places_of q xs
+places_like p q [] h = refl
+places_like p q (x ∷ xs) h =
+    ap (λ b. cond b (0 ∷ map suc (places_of p xs)) (map suc (places_of p xs))) h.0
+    ∙ ap (λ ys. cond (q x) (0 ∷ map suc ys) (map suc ys)) (places_like p q xs h.1)
+
+pub places-at : (p : AlarmState → Bool) (views : List AlarmView) (i : ℕ) (v w : AlarmView) → slice_get views i ≡ Some v → p w.state ≡ p v.state → places_of p (states (slice_set views i w)) ≡ places_of p (states views)
+places-at p [] i v w is same = refl
+places-at p (x ∷ xs) zero v w is same =
+    let first : x ≡ v = cc in
+    ap (λ b. cond b (0 ∷ map suc (places_of p (states xs))) (map suc (places_of p (states xs)))) (same ∙ ap (λ y. p y.state) (sym first))
+places-at p (x ∷ xs) (suc i) v w is same = ap (λ ys. cond (p x.state) (0 ∷ map suc ys) (map suc ys)) (places-at p xs i v w is same)
+
+pub places-map : {X : Type 0} (p : X → Bool) (f : X → X) → ((x : X) → p (f x) ≡ p x) → (xs : List X) → places_of p (map f xs) ≡ places_of p xs
+places-map p f same [] = refl
+places-map p f same (x ∷ xs) =
+    ap (λ b. cond b (0 ∷ map suc (places_of p (map f xs))) (map suc (places_of p (map f xs)))) (same x)
+    ∙ ap (λ ys. cond (p x) (0 ∷ map suc ys) (map suc ys)) (places-map p f same xs)
 
 -- ---- marks
 
@@ -162,3 +197,15 @@ alarm_on s side key valid = by (alarm_of key s.alarms) refl ∙ sym (find_side (
         let has = found_has (IsMarked s) (is_of key) s.alarms a (marked_alarms s valid) is in
         let same : is_at side a ≡ is_on s side key = at_is_on s side a has.0 ∙ ap (is_on s side) (of_key key a has.1) in
         subst (λ o. if_at side o ≡ cond (is_on s side key) o None) (sym is) (ap (λ b. cond b (Some a) None) same)
+
+-- ---- one more alarm
+
+-- the places of one more alarm, at the end of its side
+pub sides_more : (views : List AlarmView) (v : AlarmView) (list shelf : List ℕ) → AreSides views list shelf → AreSides (views ++ v ∷ []) (list ++ cond (is_unmarked v.state) (length (states views) ∷ []) []) (shelf ++ cond (is_marked v.state) (length (states views) ∷ []) [])
+sides_more views v list shelf sides =
+    record {
+      listed = ap (λ places. places ++ cond (is_unmarked v.state) (length (states views) ∷ []) []) sides.listed
+      ∙ sym (ap (places_of is_unmarked) (map-append (λ (w : AlarmView). w.state) views (v ∷ [])) ∙ places-append is_unmarked (states views) v.state);
+      shelved = ap (λ places. places ++ cond (is_marked v.state) (length (states views) ∷ []) []) sides.shelved
+      ∙ sym (ap (places_of is_marked) (map-append (λ (w : AlarmView). w.state) views (v ∷ [])) ∙ places-append is_marked (states views) v.state);
+    }

@@ -1,3 +1,5 @@
+pub mod Changes
+pub mod Edits
 pub mod Places
 pub mod Positions
 pub mod Tables

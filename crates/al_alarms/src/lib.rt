@@ -2,9 +2,12 @@
 #![tactic(auto)]
 
 pub mod alarm;
+pub mod change;
 pub mod contents;
+mod edits;
 pub mod places;
 
 pub use alarm::Alarm;
+pub use change::Change;
 pub use contents::Contents;
 pub use places::if_at;

@@ -1,16 +1,17 @@
 ghost use Rattle.std.specs.Option.{option_and_then, option_copied, option_map};
-ghost use Rattle.std.specs.Prelude.{◌≡◌, None, Some, cond, slice_get};
+ghost use Rattle.std.specs.Prelude.{◌≡◌, ◌+◌, ◌<◌, ◌≤◌, ◌++◌, ◌∷◌, [], None, Some, cond, length, slice_get, vec_capacity, vec_len};
 ghost use Rattle.al_model.specs.Alarms.{alarm_of};
 ghost use Rattle.al_model.specs.Validity.{IsInOrder};
+ghost use Rattle.al_alarms.specs.Places.{AreSides};
 ghost use Rattle.al_alarms.specs.Positions.{IsPositionOf};
-ghost use Rattle.al_alarms.specs.Views.{is_at, states};
+ghost use Rattle.al_alarms.specs.Views.{is_at, is_marked, is_unmarked, states};
 
 use crate::alarm::Alarm;
 use al_ids::AlarmKey;
 use al_model::Side;
 
 /// Where the alarm of the key stands, or else where it would.
-fn position_of(alarms: &[Alarm], key: &AlarmKey) -> Result<usize, usize>
+pub(crate) fn position_of(alarms: &[Alarm], key: &AlarmKey) -> Result<usize, usize>
     requires { IsInOrder (states alarms.now) }
     ensures { IsPositionOf key.now (states alarms.now) result }
 {
@@ -18,7 +19,7 @@ fn position_of(alarms: &[Alarm], key: &AlarmKey) -> Result<usize, usize>
 }
 
 /// The alarm of the key.
-pub fn find<'a>(alarms: &'a [Alarm], key: &AlarmKey) -> Option<&'a Alarm>
+pub(crate) fn find<'a>(alarms: &'a [Alarm], key: &AlarmKey) -> Option<&'a Alarm>
     requires { IsInOrder (states alarms.now) }
     ensures { option_map (λ v. v.state) (option_copied result) ≡ alarm_of key.now (states alarms.now) }
 {
@@ -29,7 +30,7 @@ pub fn find<'a>(alarms: &'a [Alarm], key: &AlarmKey) -> Option<&'a Alarm>
 }
 
 /// The alarm at the place that stands at this one of the places.
-pub fn at_side<'a>(alarms: &'a [Alarm], places: &[usize], i: usize) -> Option<&'a Alarm>
+pub(crate) fn at_side<'a>(alarms: &'a [Alarm], places: &[usize], i: usize) -> Option<&'a Alarm>
     ensures { option_copied result ≡ option_and_then (slice_get alarms.now) (slice_get places.now i) }
 {
     match place_at(places, i) {
@@ -64,4 +65,37 @@ fn if_one_at(alarm: &Alarm, side: Side) -> Option<&Alarm>
     ensures { option_copied result ≡ cond (is_at side alarm.now.state) (Some alarm.now) None }
 {
     if alarm.is_at(side) { Some(alarm) } else { None }
+}
+
+/// Puts the place of an alarm at the end of its side.
+fn put_place(alarm: &Alarm, place: usize, listed: &mut Vec<usize>, shelved: &mut Vec<usize>)
+    requires listed { vec_len listed.old < vec_capacity listed.old }
+    requires shelved { vec_len shelved.old < vec_capacity shelved.old }
+    ensures listed { listed.new.items ≡ listed.old.items ++ cond (is_unmarked alarm.now.state) (place ∷ []) [] }
+    ensures shelved { shelved.new.items ≡ shelved.old.items ++ cond (is_marked alarm.now.state) (place ∷ []) [] }
+    ensures listed_count { vec_len listed.new ≤ vec_len listed.old + 1 }
+    ensures shelved_count { vec_len shelved.new ≤ vec_len shelved.old + 1 }
+    ensures listed_room { vec_capacity listed.new ≡ vec_capacity listed.old }
+    ensures shelved_room { vec_capacity shelved.new ≡ vec_capacity shelved.old }
+{
+    if alarm.is_shelved() {
+        shelved.push_reserved(place);
+    } else {
+        listed.push_reserved(place);
+    }
+}
+
+/// Sets the places of both sides anew. It takes no memory.
+pub(crate) fn set_sides(alarms: &[Alarm], listed: &mut Vec<usize>, shelved: &mut Vec<usize>)
+    requires listed { length alarms.now ≤ vec_capacity listed.old }
+    requires shelved { length alarms.now ≤ vec_capacity shelved.old }
+    ensures sides { AreSides alarms.now listed.new.items shelved.new.items }
+    ensures listed_room { vec_capacity listed.new ≡ vec_capacity listed.old }
+    ensures shelved_room { vec_capacity shelved.new ≡ vec_capacity shelved.old }
+{
+    listed.clear();
+    shelved.clear();
+    for (place, alarm) in alarms.iter().enumerate() {
+        put_place(alarm, place, listed, shelved);
+    }
 }

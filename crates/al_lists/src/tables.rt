@@ -4,6 +4,7 @@ ghost use Rattle.al_model.specs.Alarms.{alarm_of};
 ghost use Rattle.al_model.specs.State.{listed, shelved, start};
 ghost use Rattle.al_model.specs.Validity.{IsValid};
 
+use crate::prepared::Prepared;
 use al_alarms::{Alarm, Contents, if_at};
 use al_base::Stamp;
 use al_ids::AlarmKey;
@@ -33,6 +34,8 @@ impl Model for Tables {
 }
 
 impl Tables {
+    ghost use Rattle.al_lists.specs.Prepared.{IsReady, with_prepared};
+
     /// The tables before the first entry: no inventory, no shelves and no alarms, of which each will keep 32 status entries, and
     /// all status changes are told.
     pub fn new(alloc: Global) -> Result<Tables, AllocError>
@@ -138,5 +141,21 @@ impl Tables {
         ensures { result ≡ self.now.state.shelf_time }
     {
         self.contents.shelf_changed()
+    }
+
+    /// Carries out the change that was prepared. It takes no memory and can't fail.
+    pub fn apply(&mut self, prepared: Prepared)
+        requires { IsReady self.old prepared }
+        ensures { self.new.state ≡ with_prepared self.old.state prepared }
+    {
+        let Prepared {
+            time,
+            change,
+            note,
+            list,
+            shelf,
+        } = prepared;
+        self.contents.carry(time, change);
+        self.contents.conclude(time, note, list, shelf);
     }
 }
