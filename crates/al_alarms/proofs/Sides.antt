@@ -1,9 +1,9 @@
 -- The places of a side.
-use Rattle.std.proofs.Common.{◌≡◌, ℕ, zero, suc, ◌+◌, ◌≤◌, Bool, true, false, cond, not, List, [], ◌∷◌, ◌++◌, length, map, Option, None, Some, refl, ap, sym, ◌∙◌, subst, arith}
-use Rattle.std.specs.List.{AllByRecursion, filter, find, slice_get, slice_set}
+use Rattle.std.proofs.Common.{◌≡◌, ℕ, zero, suc, ◌+◌, ◌<◌, ◌≤◌, Bool, true, false, cond, not, List, [], ◌∷◌, ◌++◌, length, map, take, Option, None, Some, refl, ap, sym, ◌∙◌, subst, arith, length-take}
+use Rattle.std.specs.List.{AllByRecursion, filter, find, slice_get, slice_index_or, slice_set}
 use Rattle.std.specs.Option.{is_some, option_and_then, option_map}
 use Rattle.std.specs.Ordering.{is_eq}
-use Rattle.std.proofs.lemmas.List.{map-append}
+use Rattle.std.proofs.lemmas.List.{map-append, take_more}
 use Rattle.std.proofs.lemmas.Option.{slice_get-map}
 use Rattle.al_base.specs.declared.operator.OperatorState.{OperatorState}
 use Rattle.al_base.specs.declared.operator.OperatorState.TheVariants.{None0, Ack, Closed, Shelved, UnShelved}
@@ -205,7 +205,23 @@ pub sides_more : (views : List AlarmView) (v : AlarmView) (list shelf : List ℕ
 sides_more views v list shelf sides =
     record {
       listed = ap (λ places. places ++ cond (is_unmarked v.state) (length (states views) ∷ []) []) sides.listed
-      ∙ sym (ap (places_of is_unmarked) (map-append (λ (w : AlarmView). w.state) views (v ∷ [])) ∙ places-append is_unmarked (states views) v.state);
+          ∙ sym (ap (places_of is_unmarked) (map-append (λ (w : AlarmView). w.state) views (v ∷ [])) ∙ places-append is_unmarked (states views) v.state);
       shelved = ap (λ places. places ++ cond (is_marked v.state) (length (states views) ∷ []) []) sides.shelved
-      ∙ sym (ap (places_of is_marked) (map-append (λ (w : AlarmView). w.state) views (v ∷ [])) ∙ places-append is_marked (states views) v.state);
+          ∙ sym (ap (places_of is_marked) (map-append (λ (w : AlarmView). w.state) views (v ∷ [])) ∙ places-append is_marked (states views) v.state);
     }
+
+-- the same at a loop's step
+pub sides_next : (alarms : List AlarmView) (place : ℕ) (v : AlarmView) (list shelf list' shelf' : List ℕ) → place < length alarms → v ≡ slice_index_or alarms place v → AreSides (take place alarms) list shelf → list' ≡ list ++ cond (is_unmarked v.state) (place ∷ []) [] → shelf' ≡ shelf ++ cond (is_marked v.state) (place ∷ []) [] → AreSides (take (place + 1) alarms) list' shelf'
+sides_next alarms place v list shelf list' shelf' lt read sides put_list put_shelf =
+    let before : List AlarmView = take place alarms in
+    let one_more : take (place + 1) alarms ≡ before ++ v ∷ [] = take_more alarms place v lt ∙ ap (λ w. before ++ w ∷ []) (sym read) in
+    let count : length (states before) ≡ place = length-states before ∙ (simp length-take (omega arith)) in
+    let more = sides_more before v list shelf sides in
+    record {
+      listed = put_list ∙ ap (λ n. list ++ cond (is_unmarked v.state) (n ∷ []) []) (sym count) ∙ more.listed ∙ sym (ap (λ views. places_of is_unmarked (states views)) one_more);
+      shelved = put_shelf ∙ ap (λ n. shelf ++ cond (is_marked v.state) (n ∷ []) []) (sym count) ∙ more.shelved ∙ sym (ap (λ views. places_of is_marked (states views)) one_more);
+    }
+  where
+    length-states : (views : List AlarmView) → length (states views) ≡ length views
+    length-states [] = refl
+    length-states (w ∷ views) = ap suc (length-states views)

@@ -4,7 +4,7 @@ ghost use Rattle.al_base.specs.declared.operator.OperatorState.{OperatorState};
 ghost use Rattle.al_base.specs.declared.operator.OperatorState.TheVariants.{Closed};
 ghost use Rattle.al_base.specs.declared.text.Text.{Text};
 ghost use Rattle.al_ids.specs.Keys.{key_cmp};
-ghost use Rattle.al_select.specs.Filters.{facts_of as facts, same_state};
+ghost use Rattle.al_select.specs.Filters.{purge_takes, same_state};
 ghost use Rattle.al_model.specs.Alarms.{bounded, facts_of, newest, reported, says_more, status_of, with_operator};
 ghost use Rattle.al_model.specs.Summary.{is_closed};
 ghost use Rattle.al_alarms.specs.Views.{first_state, goes, is_at, is_marked, loses, mark_of, marked, newest_said, with_max};
@@ -39,20 +39,20 @@ impl Model for Alarm {
     ghost Value = { AlarmView };
 
     ghost view = { λ a. record {
-        state = record {
-            key = a.key;
-            created = a.created;
-            raised = a.raised;
-            changed = a.changed;
-            cleared = a.cleared;
-            severity = a.severity;
-            text = a.text;
-            statuses = a.statuses.items;
-            operators = a.operators.items;
-        };
-        max = a.statuses.bound;
-        status_room = a.statuses.spare;
-        operator_room = a.operators.spare;
+      state = record {
+        key = a.key;
+        created = a.created;
+        raised = a.raised;
+        changed = a.changed;
+        cleared = a.cleared;
+        severity = a.severity;
+        text = a.text;
+        statuses = a.statuses.items;
+        operators = a.operators.items;
+      };
+      max = a.statuses.bound;
+      status_room = a.statuses.spare;
+      operator_room = a.operators.spare;
     } };
 
     ghost invariant = { λ a. a.operators.bound ≡ Some 64 };
@@ -191,25 +191,14 @@ impl Alarm {
         self.shelf_name().is_some()
     }
 
-    /// What a purge asks of it.
-    pub fn facts(&self) -> AlarmFacts<'_>
-        ensures { facts result ≡ facts_of self.now.state }
-    {
-        AlarmFacts {
-            cleared: self.cleared,
-            severity: self.severity,
-            changed: self.changed,
-            newest: newest_of(self.operators.at(0)),
-        }
-    }
-
     /// Whether a report of its key says more than what stands.
     pub fn is_changed_by(&self, status: Status, text: &Text) -> bool
         ensures { result ≡ says_more self.now.state status text.now }
     {
         match status {
-            Status::Active(severity) =>
-                self.cleared || severity.rank() != self.severity.rank() || *text != self.text,
+            Status::Active(severity) => self.cleared
+                || severity.rank() != self.severity.rank()
+                || *text != self.text,
             Status::Cleared => !self.cleared,
         }
     }
@@ -228,7 +217,20 @@ impl Alarm {
     pub fn goes(&self, side: Side, filter: &PurgeFilter, time: u64) -> bool
         ensures { result ≡ goes side filter.now time self.now.state }
     {
-        self.is_at(side) && filter.takes(&self.facts(), time)
+        self.is_at(side) && self.is_taken(filter, time)
+    }
+
+    fn is_taken(&self, filter: &PurgeFilter, time: u64) -> bool
+        ensures { result ≡ purge_takes filter.now (facts_of self.now.state) time }
+    {
+        let newest = newest_of(self.operators.at(0));
+        let facts = AlarmFacts {
+            cleared: self.cleared,
+            severity: self.severity,
+            changed: self.changed,
+            newest,
+        };
+        filter.takes(&facts, time)
     }
 
     /// Whether a compression of the side lets go an entry of it.
@@ -317,8 +319,13 @@ impl Alarm {
     )
         requires { 0 < self.old.status_room }
         ensures state { self.new.state ≡ record self.old.state {
-            raised = raised; changed = entry.time; cleared = cleared; severity = severity; text = text;
-            statuses = newest self.old.max (entry ∷ self.old.state.statuses) } }
+          raised = raised;
+          changed = entry.time;
+          cleared = cleared;
+          severity = severity;
+          text = text;
+          statuses = newest self.old.max (entry ∷ self.old.state.statuses);
+        } }
         ensures max { self.new.max ≡ self.old.max }
     {
         self.raised = raised;
@@ -379,7 +386,11 @@ fn is_closing(entry: &OperatorEntry) -> bool
 }
 
 /// The status entries of a new alarm.
-fn first_statuses(alloc: Global, max: Option<u16>, entry: StatusEntry) -> Result<History<StatusEntry>, AllocError>
+fn first_statuses(
+    alloc: Global,
+    max: Option<u16>,
+    entry: StatusEntry,
+) -> Result<History<StatusEntry>, AllocError>
     requires { IfSome max (λ most. 0 < most) }
     ensures { IfOk result (λ statuses. (statuses.items ≡ entry ∷ []) × (statuses.bound ≡ max)) }
 {
@@ -390,7 +401,10 @@ fn first_statuses(alloc: Global, max: Option<u16>, entry: StatusEntry) -> Result
 }
 
 /// The operator entries of a new alarm.
-fn first_operators(alloc: Global, shelving: Option<OperatorEntry>) -> Result<History<OperatorEntry>, AllocError>
+fn first_operators(
+    alloc: Global,
+    shelving: Option<OperatorEntry>,
+) -> Result<History<OperatorEntry>, AllocError>
     ensures { IfOk result (λ operators. (operators.items ≡ option_to_list shelving) × (operators.bound ≡ Some 64)) }
 {
     let mut operators = History::new(alloc, Some(MAX_OPERATOR_ENTRIES));

@@ -12,7 +12,8 @@ ghost use Rattle.al_alarms.specs.Views.{compressed, goes, is_marked, is_unmarked
 use crate::alarm::Alarm;
 use crate::change::Change;
 use crate::edits::{
-    apply_moves, compress, operate_at, purge, report_at, reserve_moves, reserve_operator_at, reserve_status_at, set_max,
+    apply_moves, compress, operate_at, purge, report_at, reserve_moves, reserve_operator_at,
+    reserve_status_at, set_max,
 };
 use crate::places::{at_side, find, position_of, set_sides};
 use al_base::{Severity, Stamp, Status, Text};
@@ -344,13 +345,7 @@ impl Contents {
     }
 
     /// Adds the note of a change, if there is one, and sets the times of the sides that it changes.
-    pub fn conclude(
-        &mut self,
-        time: Stamp,
-        note: Option<NoteBody>,
-        list: bool,
-        shelf: bool,
-    )
+    pub fn conclude(&mut self, time: Stamp, note: Option<NoteBody>, list: bool, shelf: bool)
         requires { IfSome note (λ _. self.old.state.log.sent + 1 < 2 ^ 32) }
         ensures { self.new.state ≡ built self.old.state self.old.state.alarms note list shelf time }
     {

@@ -34,7 +34,10 @@ pub(crate) fn reserve_operator_at(alarms: &mut Vec<Alarm>, place: usize) -> Resu
 }
 
 /// Takes the memory for moves, of which there is one for each alarm, or none.
-pub(crate) fn reserve_moves(alarms: &mut Vec<Alarm>, moves: &[Option<OperatorEntry>]) -> Result<(), AllocError>
+pub(crate) fn reserve_moves(
+    alarms: &mut Vec<Alarm>,
+    moves: &[Option<OperatorEntry>],
+) -> Result<(), AllocError>
     requires { length moves.now ≡ vec_len alarms.old }
     ensures same { ReservesOnly alarms.old.items alarms.new.items }
     ensures ok { OnOk result (HaveRoom moves.now alarms.new.items) }
