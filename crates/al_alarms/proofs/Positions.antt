@@ -1,6 +1,6 @@
 -- What stands at the position that a search found.
-use Rattle.std.proofs.Common.{◌≡◌, ℕ, ◌<◌, ◌≤◌, zero, suc, cond, Bool, true, false, Some, None, Result, Ok, Err, List, [], ◌∷◌, ◌++◌, length, map, refl, ap, sym, ◌∙◌, subst, arith, ltb, lit≤}
-use Rattle.std.specs.List.{AllByRecursion, AllWithin, HoldsAt, filter, slice_get, slice_index_or, insert}
+use Rattle.std.proofs.Common.{◌≡◌, ℕ, ◌<◌, ◌≤◌, zero, suc, cond, Bool, true, false, Some, None, Result, Ok, Err, List, [], ◌∷◌, ◌++◌, length, refl, ap, sym, ◌∙◌, subst, arith, ltb, lit≤}
+use Rattle.std.specs.List.{AllByRecursion, AllWithin, HoldsAt, filter, slice_index_or, insert}
 use Rattle.std.specs.List.Sorted.{IsStrictlySortedBy, IsBinarySearchResult, IsSearchInRange, IsNonDecreasingBy}
 use Rattle.std.specs.Ordering.{is_lt, is_eq, is_gt, ordering_index}
 use Rattle.std.specs.declared.cmp.Ordering.{Ordering}
@@ -11,11 +11,11 @@ use Rattle.std.proofs.lemmas.Map.Keys.{Less-from_sorted}
 use Rattle.al_ids.proofs.Keyed.{exact_key}
 use Rattle.al_ids.specs.Keys.{key_cmp}
 use Rattle.al_ids.specs.declared.key.AlarmKey.{AlarmKey}
-use Rattle.al_model.specs.Alarms.{alarm_of, with_newcomer}
+use Rattle.al_model.specs.Alarms.{alarm_of}
 use Rattle.al_model.specs.State.{AlarmState}
 use Rattle.al_model.specs.Validity.{IsInOrder}
-use Rattle.al_model.proofs.Order.{keys_total, turned}
-use Rattle.al_alarms.specs.Positions.{IsAbsentAt, IsKnownAt, IsPositionOf}
+use Rattle.al_model.proofs.Order.{keys_total}
+use Rattle.al_alarms.specs.Positions.{IsKnownAt, IsPositionOf}
 use Rattle.al_alarms.specs.Views.{AlarmView, states}
 
 -- the alarms below a key, and those above it

@@ -1,8 +1,7 @@
 -- The places of a side.
-use Rattle.std.proofs.Common.{◌≡◌, ℕ, zero, suc, ◌+◌, ◌<◌, ◌≤◌, Bool, true, false, cond, not, List, [], ◌∷◌, ◌++◌, length, map, take, Option, None, Some, refl, ap, sym, ◌∙◌, subst, arith, length-take}
+use Rattle.std.proofs.Common.{◌≡◌, ℕ, zero, suc, ◌+◌, ◌<◌, Bool, true, false, cond, not, List, [], ◌∷◌, ◌++◌, length, map, take, Option, None, Some, refl, ap, sym, ◌∙◌, subst, arith, length-take}
 use Rattle.std.specs.List.{AllByRecursion, filter, find, slice_get, slice_index_or, slice_set}
 use Rattle.std.specs.Option.{is_some, option_and_then, option_map}
-use Rattle.std.specs.Ordering.{is_eq}
 use Rattle.std.proofs.lemmas.List.{map-append, take_more}
 use Rattle.std.proofs.lemmas.Option.{slice_get-map}
 use Rattle.al_base.specs.declared.operator.OperatorState.{OperatorState}
@@ -168,7 +167,7 @@ found_has {X} P p (y ∷ ys) x h is = by (p y) refl is (found_has P p ys x h.1)
     by true passes e more = let first : y ≡ x = cc in (subst P first h.0, subst (λ z. p z ≡ true) first passes)
     by false passes e more = more e
 
-at_is_on : (s : State) (side : Side) (a : AlarmState) → IsMarked s a → is_at side a ≡ is_on s side a.key
+pub at_is_on : (s : State) (side : Side) (a : AlarmState) → IsMarked s a → is_at side a ≡ is_on s side a.key
 at_is_on s sides.List a h = ap (λ o. not (is_some o)) (mark_is s a h)
 at_is_on s sides.Shelf a h = ap is_some (mark_is s a h)
 

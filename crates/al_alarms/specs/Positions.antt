@@ -1,5 +1,5 @@
 -- Where the alarm of a key stands among all.
-use Rattle.std.specs.Prelude.{◌≡◌, ℕ, ◌≤◌, List, length, Option, None, Some, Result, Ok, Err, slice_get, insert}
+use Rattle.std.specs.Prelude.{◌≡◌, ℕ, ◌≤◌, List, length, None, Some, Result, Ok, Err, slice_get, insert}
 use Rattle.al_ids.specs.declared.key.AlarmKey.{AlarmKey}
 use Rattle.al_model.specs.Alarms.{alarm_of, with_newcomer}
 use Rattle.al_model.specs.State.{AlarmState}

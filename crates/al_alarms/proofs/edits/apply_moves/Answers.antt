@@ -1,7 +1,7 @@
-use Rattle.std.proofs.Common.{◌≡◌, ◌<◌, [], ◌∷◌, ◌++◌, length, Some, ap, sym, subst, ◌∙◌, arith, rules}
+use Rattle.std.proofs.Common.{◌≡◌, ◌<◌, length, Some, ap, sym, subst, ◌∙◌, arith, rules}
 use Rattle.std.specs.List.{slice_get, slice_set}
 use Rattle.al_alarms.specs.Edits.{HasRoomFor, HaveRoom, after_moves}
-use Rattle.al_alarms.specs.Views.{AlarmView, states}
+use Rattle.al_alarms.specs.Views.{states}
 use Rattle.al_alarms.proofs.Editing.{got_at, last_move, moved_last, moved_maxes, room_before}
 use Rattle.al_alarms.proofs.edits.apply_moves.Goals as goal
 

@@ -1,4 +1,4 @@
-use Rattle.std.proofs.Common.{Option, Some, ℕ, ap, arith}
+use Rattle.std.proofs.Common.{Some, ap, arith}
 use Rattle.al_model.specs.Alarms.{with_operator}
 use Rattle.al_alarms.specs.Edits.{at_place}
 use Rattle.al_alarms.specs.Views.{states}
