@@ -33,11 +33,6 @@ got_at [] i x lt e = absurd (omega arith)
 got_at (y ∷ ys) zero x lt e = ap Some (sym e)
 got_at (y ∷ ys) (suc i) x lt e = got_at ys i x (omega arith) e
 
-pub within_get : {X : Type 0} (xs : List X) (i : ℕ) (x : X) → slice_get xs i ≡ Some x → i < length xs
-within_get [] i x is = absurd (cc)
-within_get (y ∷ ys) zero x is = omega arith
-within_get (y ∷ ys) (suc i) x is = let lt = within_get ys i x is in omega arith
-
 pub get_set : {X : Type 0} (xs : List X) (i : ℕ) (x : X) → i < length xs → slice_get (slice_set xs i x) i ≡ Some x
 get_set [] i x lt = absurd (omega arith)
 get_set (y ∷ ys) zero x lt = refl

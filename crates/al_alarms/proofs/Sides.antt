@@ -74,12 +74,6 @@ places-append {X} p (y ∷ ys) x = by (p y) (ap (map suc) (places-append p ys x)
 
 -- ---- what leaves them
 
-pub places_like : {X : Type 0} (p q : X → Bool) (xs : List X) → AllByRecursion (λ x. p x ≡ q x) xs → places_of p xs ≡ places_of q xs
-places_like p q [] h = refl
-places_like p q (x ∷ xs) h =
-    ap (λ b. cond b (0 ∷ map suc (places_of p xs)) (map suc (places_of p xs))) h.0
-    ∙ ap (λ ys. cond (q x) (0 ∷ map suc ys) (map suc ys)) (places_like p q xs h.1)
-
 pub places-at : (p : AlarmState → Bool) (views : List AlarmView) (i : ℕ) (v w : AlarmView) → slice_get views i ≡ Some v → p w.state ≡ p v.state → places_of p (states (slice_set views i w)) ≡ places_of p (states views)
 places-at p [] i v w is same = refl
 places-at p (x ∷ xs) zero v w is same =
@@ -200,7 +194,7 @@ alarm_on s side key valid = by (alarm_of key s.alarms) refl ∙ sym (find_side (
 -- ---- one more alarm
 
 -- the places of one more alarm, at the end of its side
-pub sides_more : (views : List AlarmView) (v : AlarmView) (list shelf : List ℕ) → AreSides views list shelf → AreSides (views ++ v ∷ []) (list ++ cond (is_unmarked v.state) (length (states views) ∷ []) []) (shelf ++ cond (is_marked v.state) (length (states views) ∷ []) [])
+sides_more : (views : List AlarmView) (v : AlarmView) (list shelf : List ℕ) → AreSides views list shelf → AreSides (views ++ v ∷ []) (list ++ cond (is_unmarked v.state) (length (states views) ∷ []) []) (shelf ++ cond (is_marked v.state) (length (states views) ∷ []) [])
 sides_more views v list shelf sides =
     record {
       listed = ap (λ places. places ++ cond (is_unmarked v.state) (length (states views) ∷ []) []) sides.listed
