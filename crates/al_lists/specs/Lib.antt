@@ -1,1 +1,4 @@
+pub mod AreMoves
+pub mod Moves
 pub mod Prepared
+pub mod Prepares

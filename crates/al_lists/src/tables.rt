@@ -1,14 +1,17 @@
 ghost use Rattle.std.specs.Option.{option_copied, option_map};
-ghost use Rattle.std.specs.Prelude.{◌≡◌, IfOk, length, slice_get};
+ghost use Rattle.std.specs.Prelude.{◌≡◌, ◌+◌, ◌<◌, ◌^◌, IfOk, length, slice_get};
 ghost use Rattle.al_model.specs.Alarms.{alarm_of};
+ghost use Rattle.al_model.specs.History.{Fits};
 ghost use Rattle.al_model.specs.State.{listed, shelved, start};
 ghost use Rattle.al_model.specs.Validity.{IsValid};
+ghost use Rattle.al_lists.specs.Prepared.{IsPreparedFor};
 
+use crate::prepare::prepare;
 use crate::prepared::Prepared;
 use al_alarms::{Alarm, Contents, if_at};
 use al_base::Stamp;
 use al_ids::AlarmKey;
-use al_model::Side;
+use al_model::{Entry, Side};
 use al_notify::{NoteLog, NotifyRule};
 use al_shelf::Shelves;
 use al_types::Inventory;
@@ -141,6 +144,20 @@ impl Tables {
         ensures { result ≡ self.now.state.shelf_time }
     {
         self.contents.shelf_changed()
+    }
+
+    // ---- changes
+
+    /// Takes the memory for all that an entry does, so that it can be carried out without any. Till then the state stays, also
+    /// where there is no memory.
+    pub fn prepare(&mut self, entry: &Entry) -> Result<Prepared, AllocError>
+        requires fits { Fits self.old.state entry.now }
+        // A note of it gets a number.
+        requires number { self.old.state.log.sent + 1 < 2 ^ 32 }
+        ensures state { self.new.state ≡ self.old.state }
+        ensures ok { IfOk result (IsPreparedFor self.new entry.now) }
+    {
+        prepare(self.alloc, &mut self.contents, entry)
     }
 
     /// Carries out the change that was prepared. It takes no memory and can't fail.

@@ -1,0 +1,8 @@
+use Rattle.std.proofs.Common.{take}
+use Rattle.al_alarms.specs.Views.{states}
+use Rattle.al_lists.specs.AreMoves.{AreMoves}
+use Rattle.al_lists.specs.Moves.{first_name}
+use Rattle.al_lists.proofs.prepare.moves.Moves.to.Given as goal
+
+abbrev pub invariant-loop-alarm : goal.invariant-loop-alarm
+invariant-loop-alarm l = AreMoves l.time (first_name l.inventory l.shelves.shelves) (take l.alarm-index (states l.alarms)) l.moves
