@@ -22,7 +22,7 @@ use Rattle.al_select.specs.Filters.{compress_takes, purge_takes}
 use Rattle.al_select.specs.declared.compress.CompressFilter.{CompressFilter}
 use Rattle.al_select.specs.declared.purge.PurgeFilter.{PurgeFilter}
 use Rattle.al_lists.specs.Moves.{is_cut, is_in}
-use Rattle.al_alarms.specs.Views.{is_at, mark_of}
+use Rattle.al_alarms.specs.Views.{is_at}
 use Rattle.al_alarms.specs.Views.{compressed, goes}
 use Rattle.al_lists.proofs.Moving.{any_like}
 use Rattle.al_lists.proofs.Placing.{or_false}

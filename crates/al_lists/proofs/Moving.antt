@@ -1,5 +1,5 @@
 -- Moves of all alarms are what is prepared for an event of shelves or of the inventory.
-use Rattle.std.proofs.Common.{◌≡◌, ℕ, zero, suc, ◌+◌, Bool, true, false, cond, not, ◌&&◌, ◌||◌, List, [], ◌∷◌, ◌++◌, map, Option, None, Some, refl, ap, sym, ◌∙◌, take, arith}
+use Rattle.std.proofs.Common.{◌≡◌, ℕ, zero, suc, ◌+◌, Bool, true, false, ◌&&◌, ◌||◌, List, [], ◌∷◌, ◌++◌, map, Option, None, Some, refl, ap, sym, ◌∙◌, take, arith}
 use Rattle.std.specs.List.{AllByRecursion, cons_option, filter_map, list_any, slice_get}
 use Rattle.std.specs.Option.{is_some, option_to_list}
 use Rattle.al_base.specs.declared.text.Text.{Text}
@@ -9,16 +9,13 @@ use Rattle.al_model.specs.Events.{after_event, fate, moves, newcomer, set_by, to
 use Rattle.al_model.specs.State.{AlarmState, State, is_on, shelf_name}
 use Rattle.al_model.specs.Step.{moved, touches_side}
 use Rattle.al_model.specs.Validity.{IsMarked}
-use Rattle.al_model.specs.declared.entry.OperatorEntry.{OperatorEntry}
 use Rattle.al_model.specs.declared.event.Event.{Event}
-use Rattle.al_model.specs.declared.event.Event.TheVariants as events
 use Rattle.al_model.specs.declared.event.Side.{Side}
 use Rattle.al_model.specs.declared.event.Side.TheVariants as sides
 use Rattle.al_model.proofs.Sameness.{alarms_after}
 use Rattle.al_alarms.specs.Edits.{after_moves}
-use Rattle.al_lists.specs.Moves.{is_move, is_side, move_to, moves_by}
-use Rattle.al_alarms.specs.Views.{AlarmView, mark_of, states}
-use Rattle.al_lists.specs.AreMoves.{AreMoves}
+use Rattle.al_lists.specs.Moves.{AreMoves, is_side, move_to, moves_by}
+use Rattle.al_alarms.specs.Views.{AlarmView, states}
 use Rattle.al_lists.specs.declared.prepare.moves.Moves.{Moves}
 use Rattle.al_lists.proofs.Placing.{or_false}
 use Rattle.al_alarms.proofs.Sides.{mark_is}

@@ -1,5 +1,5 @@
 -- What is prepared for an event is its step.
-use Rattle.std.proofs.Common.{◌≡◌, ◌≢◌, ℕ, zero, suc, ◌+◌, ◌<◌, ◌≤◌, ◌^◌, Bool, true, false, cond, not, ◌&&◌, ◌||◌, List, length, Option, None, Some, refl, ap, sym, ◌∙◌, subst, arith}
+use Rattle.std.proofs.Common.{◌≡◌, ◌≢◌, ℕ, zero, suc, ◌+◌, ◌<◌, ◌≤◌, ◌^◌, Bool, true, false, cond, not, ◌&&◌, List, length, Option, None, Some, refl, ap, sym, ◌∙◌, subst, arith}
 use Rattle.std.specs.List.{insert, list_any, slice_get}
 use Rattle.std.specs.Option.{IfSome, IsSome, is_some, option_map}
 use Rattle.std.proofs.lemmas.List.Edits.{length-insert}
@@ -44,16 +44,15 @@ use Rattle.al_model.proofs.Fitting.{fitting}
 use Rattle.al_model.proofs.Sameness.{step_is}
 use Rattle.al_model.proofs.Tools.{both_true, is_none_at, not_true}
 use Rattle.al_model.proofs.Validity.{marked_alarms, step_valid}
-use Rattle.al_alarms.specs.Changes.{HasRoom, with_change}
+use Rattle.al_alarms.specs.Changes.{with_change}
 use Rattle.al_alarms.specs.Edits.{HasAlarm, HaveRoom, after_moves, at_place}
 use Rattle.al_alarms.specs.Positions.{IsAbsentAt, IsKnownAt}
 use Rattle.al_alarms.specs.Tables.{TablesView}
 use Rattle.al_alarms.specs.Views.{AlarmView, is_at, is_marked, mark_of, marked}
 use Rattle.al_alarms.specs.declared.change.Change.TheVariants as kinds
 use Rattle.al_alarms.proofs.Sides.{mark_is}
-use Rattle.al_lists.specs.AreMoves.{AreMoves}
-use Rattle.al_lists.specs.Moves.{first_name, is_cut, is_in}
-use Rattle.al_lists.specs.Prepared.{IsPreparedFor, IsReady, with_prepared}
+use Rattle.al_lists.specs.Moves.{AreMoves, first_name, is_cut, is_in}
+use Rattle.al_lists.specs.Prepared.{IsPreparedFor, with_prepared}
 use Rattle.al_lists.specs.Prepares.{Comes, Prepares, PreparesMoves, alarms_after, with_inventory, with_shelves}
 use Rattle.al_lists.specs.declared.prepare.moves.Moves.{Moves}
 use Rattle.al_lists.specs.declared.prepared.Prepared.{Prepared}

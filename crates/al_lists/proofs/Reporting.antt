@@ -1,8 +1,7 @@
 -- Reports and operators' actions are what is prepared for them.
-use Rattle.std.proofs.Common.{◌≡◌, ℕ, Bool, true, false, cond, not, ◌&&◌, ◌||◌, List, [], ◌∷◌, map, Option, None, Some, refl, ap, sym, ◌∙◌, subst}
+use Rattle.std.proofs.Common.{◌≡◌, ℕ, Bool, true, false, cond, ◌&&◌, ◌||◌, List, [], ◌∷◌, map, Option, None, Some, refl, ap, sym, ◌∙◌, subst}
 use Rattle.std.specs.List.{filter_map, insert, list_any}
-use Rattle.std.specs.Option.{is_some, option_map, option_to_list}
-use Rattle.std.specs.Ordering.{is_eq}
+use Rattle.std.specs.Option.{is_some, option_to_list}
 use Rattle.al_base.specs.declared.operator.OperatorState.{OperatorState}
 use Rattle.al_base.specs.declared.severity.Severity.{Severity}
 use Rattle.al_base.specs.declared.severity.Status.{Status}
@@ -15,11 +14,8 @@ use Rattle.al_model.specs.Events.{after_event, fate, newcomer, set_by, touches}
 use Rattle.al_model.specs.State.{AlarmState, State, is_on, shelf_name}
 use Rattle.al_model.specs.Step.{moved, touches_side}
 use Rattle.al_model.specs.Validity.{IsInOrder}
-use Rattle.al_model.specs.declared.event.Event.{Event}
 use Rattle.al_model.specs.declared.event.Event.TheVariants as events
 use Rattle.al_model.specs.declared.event.Side.{Side}
-use Rattle.al_model.specs.declared.event.Side.TheVariants as sides
-use Rattle.al_model.specs.declared.entry.OperatorEntry.{OperatorEntry}
 use Rattle.al_model.proofs.Living.{all_live, found, none_of_both}
 use Rattle.al_model.proofs.Moves.{unmoved}
 use Rattle.al_model.proofs.Sameness.{alarms_after}

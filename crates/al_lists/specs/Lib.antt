@@ -1,4 +1,3 @@
-pub mod AreMoves
 pub mod Moves
 pub mod Prepared
 pub mod Prepares

@@ -1,5 +1,6 @@
 -- How alarms move where their first shelves become others, and which of them an event chooses.
-use Rattle.std.specs.Prelude.{ℕ, nat_lt, Bool, true, false, not, ◌&&◌, ◌||◌, Option, None, Some, List, is_some, length}
+use Rattle.std.specs.Prelude.{◌≡◌, ℕ, nat_lt, Bool, true, false, not, ◌&&◌, ◌||◌, Option, None, Some, List, is_some, length, map}
+use Rattle.std.specs.List.{list_any}
 use Rattle.std.specs.Option.{option_map}
 use Rattle.al_base.specs.declared.text.Text.{Text}
 use Rattle.al_ids.specs.declared.key.AlarmKey.{AlarmKey}
@@ -12,6 +13,7 @@ use Rattle.al_model.specs.declared.entry.OperatorEntry.{OperatorEntry}
 use Rattle.al_model.specs.declared.event.Side.{Side}
 use Rattle.al_model.specs.declared.event.Side.TheVariants as sides
 use Rattle.al_alarms.specs.Views.{mark_of}
+use Rattle.al_lists.specs.declared.prepare.moves.Moves.{Moves}
 
 -- ---- moves
 
@@ -35,6 +37,12 @@ move_to time name a = move_entry time (mark_of a.operators) (name a.key)
 -- whether it moves, and is on the side before or after
 abbrev pub moves_by : ℕ → (AlarmKey → Option Text) → Side → AlarmState → Bool
 moves_by time name side a = is_move time side (mark_of a.operators) (name a.key)
+
+-- They are the moves of these alarms at the time, where this tells the name of the first shelf of each key.
+pub record AreMoves (time : ℕ) (name : AlarmKey → Option Text) (alarms : List AlarmState) (moves : Moves) : Type 0 where
+  pub entries : moves.entries.items ≡ map (move_to time name) alarms
+  pub list : moves.list ≡ list_any (moves_by time name sides.List) alarms
+  pub shelf : moves.shelf ≡ list_any (moves_by time name sides.Shelf) alarms
 
 -- ---- sides and cuts
 

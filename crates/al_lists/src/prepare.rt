@@ -27,7 +27,9 @@ pub(crate) fn prepare(
 {
     let time = entry.time;
     match &entry.event {
-        Event::Report { key, status, text } => report::report(alloc, contents, time, key, *status, text),
+        Event::Report { key, status, text } => report::report(
+            alloc, contents, time, key, *status, text,
+        ),
         Event::Operate {
             key,
             state,

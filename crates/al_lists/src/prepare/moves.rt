@@ -26,7 +26,7 @@ pub(crate) struct Moves {
 }
 
 impl Moves {
-    ghost use Rattle.al_lists.specs.AreMoves.{AreMoves};
+    ghost use Rattle.al_lists.specs.Moves.{AreMoves};
 
     /// The moves of all alarms to where these shelves have them.
     pub(crate) fn to(

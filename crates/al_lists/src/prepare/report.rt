@@ -132,11 +132,7 @@ fn status_note(
     if !told {
         return Ok(None);
     }
-    Ok(Some(NoteBody::Status(
-        key.copy(alloc)?,
-        status,
-        text.copy(alloc)?,
-    )))
+    Ok(Some(NoteBody::Status(key.copy(alloc)?, status, text.copy(alloc)?)))
 }
 
 /// Prepares a report that makes an alarm, at the place where it is put in.

@@ -6,8 +6,7 @@ ghost use Rattle.al_model.specs.Validity.{IsValid};
 ghost use Rattle.al_model.specs.declared.event.Event.TheVariants as events;
 ghost use Rattle.al_shelf.specs.Places.{without};
 ghost use Rattle.al_alarms.specs.Views.{states};
-ghost use Rattle.al_lists.specs.AreMoves.{AreMoves};
-ghost use Rattle.al_lists.specs.Moves.{first_name};
+ghost use Rattle.al_lists.specs.Moves.{AreMoves, first_name};
 ghost use Rattle.al_lists.specs.Prepares.{Comes, Prepares, PreparesMoves, with_shelves};
 
 use crate::prepare::moves::{Moves, installed_or};
@@ -118,7 +117,13 @@ pub(crate) fn install(
     ensures ok { IfOk result (Prepares contents.new time (events.Install inventory.now)) }
 {
     let inventory = inventory.copy(alloc)?;
-    let moves = Moves::to(alloc, time, contents.alarms(), contents.shelves(), &inventory)?;
+    let moves = Moves::to(
+        alloc,
+        time,
+        contents.alarms(),
+        contents.shelves(),
+        &inventory,
+    )?;
     contents.reserve_moves(moves.entries.as_slice())?;
     Ok(Prepared {
         time,

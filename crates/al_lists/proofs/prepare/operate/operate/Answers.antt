@@ -1,4 +1,3 @@
-use Rattle.std.proofs.Common.{length}
 use Rattle.std.proofs.lemmas.Option.{slice_get_within}
 use Rattle.al_lists.proofs.Preparing.{operable, operate_prepared}
 use Rattle.al_lists.proofs.prepare.operate.operate.Goals as goal

@@ -1,4 +1,4 @@
-use Rattle.std.proofs.Common.{subst, sym}
+use Rattle.std.proofs.Common.{subst}
 use Rattle.al_alarms.specs.Edits.{HaveRoom}
 use Rattle.al_lists.proofs.Preparing.{shelves_prepared}
 use Rattle.al_lists.proofs.prepare.shelve.reshelve.Goals as goal

@@ -1,4 +1,4 @@
-use Rattle.std.proofs.Common.{◌≡◌, ◌+◌, ◌<◌, ◌^◌, IfSome, ap, sym, subst, ◌∙◌}
+use Rattle.std.proofs.Common.{◌+◌, ◌<◌, ◌^◌, IfSome, ap, sym, subst, ◌∙◌}
 use Rattle.al_model.specs.Step.{built}
 use Rattle.al_model.specs.Validity.{IsValid}
 use Rattle.al_alarms.specs.Changes.{HasRoom}

@@ -4,8 +4,7 @@ use Rattle.std.specs.Option.{option_copied}
 use Rattle.al_model.specs.Alarms.{move_entry}
 use Rattle.al_model.specs.declared.event.Side.TheVariants as sides
 use Rattle.al_alarms.specs.Views.{states}
-use Rattle.al_lists.specs.AreMoves.{AreMoves}
-use Rattle.al_lists.specs.Moves.{first_name, is_move, move_to, moves_by}
+use Rattle.al_lists.specs.Moves.{AreMoves, first_name, is_move}
 use Rattle.al_lists.proofs.Moving.{moves_more, take_more}
 use Rattle.al_lists.proofs.prepare.moves.Moves.to.Goals as goal
 

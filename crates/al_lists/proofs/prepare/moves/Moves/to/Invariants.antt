@@ -1,7 +1,6 @@
 use Rattle.std.proofs.Common.{take}
 use Rattle.al_alarms.specs.Views.{states}
-use Rattle.al_lists.specs.AreMoves.{AreMoves}
-use Rattle.al_lists.specs.Moves.{first_name}
+use Rattle.al_lists.specs.Moves.{AreMoves, first_name}
 use Rattle.al_lists.proofs.prepare.moves.Moves.to.Given as goal
 
 abbrev pub invariant-loop-alarm : goal.invariant-loop-alarm

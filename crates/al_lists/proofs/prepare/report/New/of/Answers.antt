@@ -1,7 +1,5 @@
-use Rattle.std.proofs.Common.{◌≡◌, Option, None, Some, Bor, refl, ap, sym, ◌∙◌}
+use Rattle.std.proofs.Common.{◌≡◌, Option, None, Some, Bor, refl, ap, ◌∙◌}
 use Rattle.std.specs.Option.{is_some, option_copied, unwrap_or}
-use Rattle.al_base.specs.declared.text.Text.{Text}
-use Rattle.al_types.specs.Inventories.{InventoryView}
 use Rattle.al_lists.specs.Moves.{first_name}
 use Rattle.al_lists.proofs.prepare.report.New.of.Goals as goal
 
