@@ -14,8 +14,8 @@ use Rattle.al_model.specs.declared.event.Side.{Side}
 use Rattle.al_model.specs.declared.event.Side.TheVariants as sides
 use Rattle.al_model.proofs.Sameness.{alarms_after}
 use Rattle.al_alarms.specs.Edits.{after_moves}
-use Rattle.al_lists.specs.Moves.{AreMoves, is_side, move_to, moves_by}
-use Rattle.al_alarms.specs.Views.{AlarmView, states}
+use Rattle.al_lists.specs.Moves.{AddsMove, AreMoves, is_side, move_to, moves_by}
+use Rattle.al_alarms.specs.Views.{AlarmView, mark_of, states}
 use Rattle.al_lists.specs.declared.prepare.moves.Moves.{Moves}
 use Rattle.al_lists.proofs.Placing.{or_false}
 use Rattle.al_alarms.proofs.Sides.{mark_is}
@@ -87,12 +87,12 @@ map_append : {X Y : Type 0} (f : X → Y) (xs : List X) (x : X) → map f (xs ++
 map_append f [] x = refl
 map_append f (y ∷ ys) x = ap (λ zs. f y ∷ zs) (map_append f ys x)
 
-pub moves_more : (time : ℕ) (name : AlarmKey → Option Text) (alarms : List AlarmState) (a : AlarmState) (before after : Moves) → AreMoves time name alarms before → after.entries.items ≡ before.entries.items ++ move_to time name a ∷ [] → after.list ≡ (before.list || moves_by time name sides.List a) → after.shelf ≡ (before.shelf || moves_by time name sides.Shelf a) → AreMoves time name (alarms ++ a ∷ []) after
-moves_more time name alarms a before after h entries list shelf =
+pub moves_more : (time : ℕ) (name : AlarmKey → Option Text) (alarms : List AlarmState) (a : AlarmState) (before after : Moves) → AreMoves time name alarms before → AddsMove time (mark_of a.operators) (name a.key) before after → AreMoves time name (alarms ++ a ∷ []) after
+moves_more time name alarms a before after h adds =
     record {
-      entries = entries ∙ ap (λ xs. xs ++ move_to time name a ∷ []) h.entries ∙ sym (map_append (move_to time name) alarms a);
-      list = list ∙ ap (λ b. b || moves_by time name sides.List a) h.list ∙ sym (list_any_append (moves_by time name sides.List) alarms a);
-      shelf = shelf ∙ ap (λ b. b || moves_by time name sides.Shelf a) h.shelf ∙ sym (list_any_append (moves_by time name sides.Shelf) alarms a);
+      entries = adds.entries ∙ ap (λ xs. xs ++ move_to time name a ∷ []) h.entries ∙ sym (map_append (move_to time name) alarms a);
+      list = adds.list ∙ ap (λ b. b || moves_by time name sides.List a) h.list ∙ sym (list_any_append (moves_by time name sides.List) alarms a);
+      shelf = adds.shelf ∙ ap (λ b. b || moves_by time name sides.Shelf a) h.shelf ∙ sym (list_any_append (moves_by time name sides.Shelf) alarms a);
     }
 
 take_suc : (views : List AlarmView) (i : ℕ) (v : AlarmView) → slice_get views i ≡ Some v → take (suc i) (states views) ≡ take i (states views) ++ v.state ∷ []

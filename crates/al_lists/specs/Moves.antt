@@ -1,5 +1,5 @@
 -- How alarms move where their first shelves become others, and which of them an event chooses.
-use Rattle.std.specs.Prelude.{◌≡◌, ℕ, nat_lt, Bool, true, false, not, ◌&&◌, ◌||◌, Option, None, Some, List, is_some, length, map}
+use Rattle.std.specs.Prelude.{◌≡◌, ℕ, nat_lt, Bool, true, false, not, ◌&&◌, ◌||◌, Option, None, Some, List, [], ◌∷◌, ◌++◌, is_some, length, map}
 use Rattle.std.specs.List.{list_any}
 use Rattle.std.specs.Option.{option_map}
 use Rattle.al_base.specs.declared.text.Text.{Text}
@@ -37,6 +37,12 @@ move_to time name a = move_entry time (mark_of a.operators) (name a.key)
 -- whether it moves, and is on the side before or after
 abbrev pub moves_by : ℕ → (AlarmKey → Option Text) → Side → AlarmState → Bool
 moves_by time name side a = is_move time side (mark_of a.operators) (name a.key)
+
+-- The move of one more alarm, from a first shelf to another, is added.
+pub record AddsMove (time : ℕ) (before after : Option Text) (old new : Moves) : Type 0 where
+  pub entries : new.entries.items ≡ old.entries.items ++ move_entry time before after ∷ []
+  pub list : new.list ≡ (old.list || is_move time sides.List before after)
+  pub shelf : new.shelf ≡ (old.shelf || is_move time sides.Shelf before after)
 
 -- They are the moves of these alarms at the time, where this tells the name of the first shelf of each key.
 pub record AreMoves (time : ℕ) (name : AlarmKey → Option Text) (alarms : List AlarmState) (moves : Moves) : Type 0 where

@@ -26,7 +26,7 @@ pub(crate) struct Moves {
 }
 
 impl Moves {
-    ghost use Rattle.al_lists.specs.Moves.{AreMoves};
+    ghost use Rattle.al_lists.specs.Moves.{AddsMove, AreMoves};
 
     /// The moves of all alarms to where these shelves have them.
     pub(crate) fn to(
@@ -65,9 +65,7 @@ impl Moves {
         before: Option<&Text>,
         after: Option<&Text>,
     ) -> Result<(), AllocError>
-        ensures entries { OnOk result (self.new.entries.items ≡ self.old.entries.items ++ move_entry time (option_copied before.entry) (option_copied after.entry) ∷ []) }
-        ensures list { OnOk result (self.new.list ≡ (self.old.list || is_move time sides.List (option_copied before.entry) (option_copied after.entry))) }
-        ensures shelf { OnOk result (self.new.shelf ≡ (self.old.shelf || is_move time sides.Shelf (option_copied before.entry) (option_copied after.entry))) }
+        ensures { OnOk result (AddsMove time (option_copied before.entry) (option_copied after.entry) self.old self.new) }
     {
         let entry = move_entry(alloc, time, before, after)?;
         let moves = entry.is_some();
