@@ -1,6 +1,12 @@
 pub mod Applying
+pub mod Asking
+pub mod Changing
 pub mod Choosing
+pub mod Counting
+pub mod Judging
 pub mod Moving
 pub mod Placing
 pub mod Preparing
 pub mod Reporting
+pub mod Shelving
+pub mod Tallies

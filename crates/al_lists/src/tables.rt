@@ -1,17 +1,24 @@
 ghost use Rattle.std.specs.Option.{option_copied, option_map};
-ghost use Rattle.std.specs.Prelude.{◌≡◌, ◌+◌, ◌<◌, ◌^◌, IfOk, length, slice_get};
+ghost use Rattle.std.specs.Prelude.{◌≡◌, ◌+◌, ◌<◌, ◌^◌, ◌↔◌, IfOk, IsTrue, OnErr, length, slice_get};
 ghost use Rattle.al_model.specs.Alarms.{alarm_of};
+ghost use Rattle.al_model.specs.Decision.{decision_of};
 ghost use Rattle.al_model.specs.History.{Fits};
+ghost use Rattle.al_model.specs.Limits.{IsEntryWithin};
 ghost use Rattle.al_model.specs.State.{listed, shelved, start};
+ghost use Rattle.al_model.specs.Summary.{has_shelved, summary_of};
 ghost use Rattle.al_model.specs.Validity.{IsValid};
 ghost use Rattle.al_lists.specs.Prepared.{IsPreparedFor};
+ghost use Rattle.al_lists.specs.Verdicts.{HasEvent};
 
+use crate::decide::decide;
+use crate::fits::fits;
 use crate::prepare::prepare;
 use crate::prepared::Prepared;
+use crate::summary::{Summary, rows};
 use al_alarms::{Alarm, Contents, if_at};
 use al_base::Stamp;
 use al_ids::AlarmKey;
-use al_model::{Entry, Side};
+use al_model::{Decision, Entry, Request, Side};
 use al_notify::{NoteLog, NotifyRule};
 use al_shelf::Shelves;
 use al_types::Inventory;
@@ -144,6 +151,42 @@ impl Tables {
         ensures { result ≡ self.now.state.shelf_time }
     {
         self.contents.shelf_changed()
+    }
+
+    /// The time of the last entry, that of stamps' beginning before the first.
+    pub fn time(&self) -> Stamp
+        ensures { result ≡ self.now.state.time }
+    {
+        self.contents.time()
+    }
+
+    /// How many alarms the list has, by severity and by what became of them, and whether any alarm is on a shelf.
+    pub fn summary(&self) -> Summary
+        ensures rows { result.rows ≡ summary_of self.now.state }
+        ensures shelves { result.shelves_active ≡ has_shelved self.now.state }
+    {
+        Summary {
+            rows: rows(&self.contents),
+            shelves_active: self.contents.shelved_count() > 0,
+        }
+    }
+
+    /// What is to become of a request at a reading of the clock. Memory is taken for the event of a change alone, so only where it is one
+    /// there can be too little of it.
+    pub fn decide(&self, request: &Request, now: Stamp) -> Result<Decision, AllocError>
+        ensures ok { IfOk result (λ decision. decision ≡ decision_of self.now.state request.now now) }
+        ensures err { OnErr result (HasEvent (decision_of self.now.state request.now now)) }
+    {
+        decide(self.alloc, &self.contents, request, now)
+    }
+
+    /// Whether the entry may come next: it is later than the last one, and a request asks for its event that would be carried out by
+    /// just this event. It takes no memory.
+    pub fn fits(&self, entry: &Entry) -> bool
+        requires { IsEntryWithin entry.now }
+        ensures { IsTrue result ↔ Fits self.now.state entry.now }
+    {
+        fits(&self.contents, entry)
     }
 
     // ---- changes
