@@ -1,6 +1,6 @@
 -- An entry fits exactly where its event is asked for and carried out, and it is within limits and later than the last one.
-use Rattle.std.proofs.Common.{◌≡◌, ◌≢◌, ℕ, zero, suc, ◌+◌, ◌<◌, ◌≤◌, ◌↔◌, ◌==◌, IsTrue, Bool, true, false, cond, not, ◌&&◌, Option, None, Some, List, length, get_or, refl, sym, ap, ◌∙◌, subst, arith}
-use Rattle.std.specs.Bool.{Decides, nat_lt}
+use Rattle.std.proofs.Common.{◌≡◌, ◌≢◌, ℕ, zero, suc, ◌<◌, ◌≤◌, ◌↔◌, ◌==◌, IsTrue, Bool, true, false, cond, not, Option, None, Some, List, length, get_or, refl, sym, ap, ◌∙◌, subst, arith}
+use Rattle.std.specs.Bool.{nat_lt}
 use Rattle.std.specs.List.{AllPairs, position_or_len, slice_get}
 use Rattle.std.specs.Option.{is_some, option_map, option_or, unwrap_or}
 use Rattle.std.proofs.lemmas.Bool.{false≢true}
@@ -10,13 +10,12 @@ use Rattle.std.proofs.lemmas.List.Sums.{position_or_len_is}
 use Rattle.std.proofs.lemmas.Option.{get_or_from_slice_get, same_Some, slice_get-get_or, slice_get_past, slice_get_within}
 use Rattle.al_base.specs.Names.{rank_of}
 use Rattle.al_base.specs.declared.severity.Severity.{Severity}
-use Rattle.al_notify.specs.declared.rule.Mode.{Mode}
 use Rattle.al_notify.specs.declared.rule.NotifyRule.{NotifyRule}
 use Rattle.al_shelf.specs.Places.{AreShelves, is_named, place_for, place_of, without}
 use Rattle.al_shelf.specs.declared.shelf.Shelf.{Shelf}
 use Rattle.al_shelf.specs.declared.spot.Spot.TheVariants.{First, After}
-use Rattle.al_model.specs.Decision.{changes, decision_of, entry_time, event_of, full, reply_of, unless}
-use Rattle.al_model.specs.History.{Fits, asked_by, asked_for, asked_rule}
+use Rattle.al_model.specs.Decision.{changes, decision_of, event_of, full, reply_of, unless}
+use Rattle.al_model.specs.History.{Fits, asked_for}
 use Rattle.al_model.specs.Limits.{IsEntryWithin}
 use Rattle.al_model.specs.Sames.{same_mode}
 use Rattle.al_model.specs.State.{State}

@@ -1,9 +1,9 @@
 -- What a request would change, found without making the change.
-use Rattle.std.proofs.Common.{◌≡◌, ℕ, ◌+◌, ◌<◌, ◌≤◌, ◌==◌, ◌&&◌, ◌||◌, Bool, true, false, cond, not, Option, None, Some, List, [], ◌∷◌, length, take, drop, refl, sym, ap, ◌∙◌, subst, arith}
-use Rattle.std.specs.Bool.{Decides, nat_le, nat_lt}
-use Rattle.std.specs.List.{AllByRecursion, count_by, filter, find, insert, list_any, remove, slice_get}
+use Rattle.std.proofs.Common.{◌≡◌, ℕ, ◌<◌, ◌==◌, ◌&&◌, ◌||◌, Bool, true, false, cond, not, Option, None, Some, List, [], ◌∷◌, length, refl, sym, ap, ◌∙◌, subst, arith}
+use Rattle.std.specs.Bool.{Decides, nat_lt}
+use Rattle.std.specs.List.{AllByRecursion, insert, list_any}
 use Rattle.std.specs.List.Sorted.{IsStrictlySortedBy}
-use Rattle.std.specs.Option.{IfSome, is_none, is_some, option_eq, option_map, option_map_or}
+use Rattle.std.specs.Option.{is_none, is_some, option_eq, option_map_or}
 use Rattle.std.specs.Ordering.{is_eq}
 use Rattle.std.specs.declared.cmp.Ordering.TheVariants.{Less, Greater}
 use Rattle.std.proofs.lemmas.Bool.Decides.{Decides-ltb}
@@ -19,14 +19,13 @@ use Rattle.al_shelf.specs.declared.shelf.Shelf.{Shelf}
 use Rattle.al_types.specs.Inventories.{InventoryView}
 use Rattle.al_model.specs.Alarms.{alarm_of, is_of, move_entry, new_alarm, says_more}
 use Rattle.al_model.specs.Decision.{changes, missing, unless}
-use Rattle.al_model.specs.Events.{moves, newcomer, set_by, touches}
+use Rattle.al_model.specs.Events.{moves, newcomer, touches}
 use Rattle.al_model.specs.Sames.{same_installed, same_rule, same_shelves}
 use Rattle.al_model.specs.State.{AlarmState, State, is_listed, listed, shelf_name}
 use Rattle.al_model.specs.Step.{is_news}
 use Rattle.al_model.specs.Validity.{IsBounded, IsInOrder}
 use Rattle.al_base.specs.declared.operator.OperatorState.{OperatorState}
 use Rattle.al_model.specs.declared.decision.Refusal.TheVariants.{NoAlarm}
-use Rattle.al_model.specs.declared.event.Event.{Event}
 use Rattle.al_model.specs.declared.event.Event.TheVariants as events
 use Rattle.al_model.specs.declared.request.Request.TheVariants as requests
 use Rattle.al_alarms.proofs.Sides.{find_side}

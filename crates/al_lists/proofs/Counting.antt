@@ -1,7 +1,7 @@
 -- How many alarms a purge or a compression changes.
-use Rattle.std.proofs.Common.{◌≡◌, ℕ, zero, suc, ◌<◌, ◌≤◌, ◌&&◌, ◌||◌, Bool, true, false, cond, None, Some, List, [], ◌∷◌, length, refl, sym, ap, ◌∙◌, arith}
+use Rattle.std.proofs.Common.{◌≡◌, ℕ, suc, ◌≤◌, ◌&&◌, ◌||◌, Bool, true, false, cond, None, List, [], ◌∷◌, length, refl, sym, ap, ◌∙◌, arith}
 use Rattle.std.specs.Bool.{nat_lt}
-use Rattle.std.specs.List.{AllByRecursion, count_by, filter, list_any}
+use Rattle.std.specs.List.{AllByRecursion, filter, list_any}
 use Rattle.std.proofs.lemmas.Bool.Decides.{Decides-ltb}
 use Rattle.std.proofs.lemmas.List.Sums.{length-filter}
 use Rattle.al_base.specs.Limits.{most_alarms}
@@ -9,7 +9,6 @@ use Rattle.al_select.specs.Filters.{compress_takes, purge_takes}
 use Rattle.al_select.specs.declared.compress.CompressFilter.{CompressFilter}
 use Rattle.al_select.specs.declared.purge.PurgeFilter.{PurgeFilter}
 use Rattle.al_model.specs.Alarms.{facts_of}
-use Rattle.al_model.specs.Decision.{changes}
 use Rattle.al_model.specs.Events.{touches}
 use Rattle.al_model.specs.State.{AlarmState, State, is_on}
 use Rattle.al_model.specs.Validity.{IsMarked, IsValid}
@@ -17,7 +16,6 @@ use Rattle.al_model.specs.declared.decision.Reply.TheVariants.{Count}
 use Rattle.al_model.specs.declared.event.Event.TheVariants as events
 use Rattle.al_model.specs.declared.event.Side.{Side}
 use Rattle.al_model.specs.declared.event.Side.TheVariants as sides
-use Rattle.al_model.specs.declared.request.Request.{Request}
 use Rattle.al_model.specs.declared.request.Request.TheVariants as requests
 use Rattle.al_model.proofs.Bounds.{length_filter}
 use Rattle.al_model.proofs.Validity.{marked_alarms}
@@ -25,7 +23,7 @@ use Rattle.al_alarms.proofs.Positions.{length_states}
 use Rattle.al_alarms.proofs.Sides.{filter_like, marks_list, marks_shelve}
 use Rattle.al_alarms.specs.Views.{AlarmView, goes, is_at, loses, states}
 use Rattle.al_lists.specs.Verdicts.{judged, room_for, verdict_at}
-use Rattle.al_lists.proofs.Judging.{IsPlain, plain_verdict}
+use Rattle.al_lists.proofs.Judging.{plain_verdict}
 
 -- ---- counts
 

@@ -1,7 +1,6 @@
 -- Alarms of one severity, told apart by what became of them, and counted.
-use Rattle.std.specs.Prelude.{◌≡◌, ℕ, ◌+◌, ◌==◌, ◌≤◌, ◌<◌, Bool, true, false, not, ◌&&◌, List, [], ◌∷◌, filter, if◌then◌else◌}
+use Rattle.std.specs.Prelude.{ℕ, ◌+◌, ◌==◌, ◌≤◌, Bool, true, false, not, ◌&&◌, List, [], ◌∷◌, filter, if◌then◌else◌}
 use Rattle.std.specs.List.{count_by}
-use Rattle.al_base.specs.Limits.{most_alarms}
 use Rattle.al_base.specs.Names.{rank_of}
 use Rattle.al_base.specs.declared.severity.Severity.{Severity}
 use Rattle.al_model.specs.State.{AlarmState}

@@ -19,15 +19,12 @@ use al_ids::AlarmKey;
 use al_model::{Decision, Event, Refusal, Reply, Request, Side};
 use al_notify::{Mode, NotifyRule};
 use al_select::{CompressFilter, PurgeFilter};
-use al_shelf::{Shelf, Shelves, Spot};
+use al_shelf::{MAX_SHELVES, Shelf, Shelves, Spot};
 use al_types::Row;
 use std::alloc::{AllocError, Global};
 
 /// The most alarms that there are.
 const MAX_ALARMS: usize = 10_000;
-
-/// The most shelves that there are.
-const MAX_SHELVES: usize = 64;
 
 /// What is to become of a request at a reading of the clock. Memory is taken for the event of a change alone.
 pub(crate) fn decide(

@@ -153,7 +153,7 @@ impl Tables {
         self.contents.shelf_changed()
     }
 
-    /// The time of the last entry, that of stamps' beginning before the first.
+    /// The time of the last entry, and before the first one the moment that all stamps count from.
     pub fn time(&self) -> Stamp
         ensures { result ≡ self.now.state.time }
     {
@@ -171,8 +171,7 @@ impl Tables {
         }
     }
 
-    /// What is to become of a request at a reading of the clock. Memory is taken for the event of a change alone, so only where it is one
-    /// there can be too little of it.
+    /// What is to become of a request at a reading of the clock. Memory is taken for the event of a change alone.
     pub fn decide(&self, request: &Request, now: Stamp) -> Result<Decision, AllocError>
         ensures ok { IfOk result (λ decision. decision ≡ decision_of self.now.state request.now now) }
         ensures err { OnErr result (HasEvent (decision_of self.now.state request.now now)) }
@@ -180,8 +179,7 @@ impl Tables {
         decide(self.alloc, &self.contents, request, now)
     }
 
-    /// Whether the entry may come next: it is later than the last one, and a request asks for its event that would be carried out by
-    /// just this event. It takes no memory.
+    /// Whether the entry may come next. It takes no memory.
     pub fn fits(&self, entry: &Entry) -> bool
         requires { IsEntryWithin entry.now }
         ensures { IsTrue result ↔ Fits self.now.state entry.now }

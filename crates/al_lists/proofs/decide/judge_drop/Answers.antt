@@ -1,4 +1,4 @@
-use Rattle.std.proofs.Common.{◌≡◌, ◌≤◌, Option, None, Some, length, not, refl, sym, ap, ◌∙◌, true, arith}
+use Rattle.std.proofs.Common.{◌≤◌, None, length, not, refl, sym, ap, ◌∙◌, true, arith}
 use Rattle.std.specs.Option.{is_none, is_some, option_or}
 use Rattle.al_model.proofs.Bounds.{length_filter}
 use Rattle.al_model.specs.Decision.{unless}

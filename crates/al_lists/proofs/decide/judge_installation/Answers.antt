@@ -1,4 +1,4 @@
-use Rattle.std.proofs.Common.{None, Some, refl, sym, ap, ◌∙◌, true}
+use Rattle.std.proofs.Common.{None, refl, sym, ap, ◌∙◌, true}
 use Rattle.std.specs.Option.{is_none, option_or}
 use Rattle.al_model.specs.Decision.{unless}
 use Rattle.al_model.specs.declared.decision.Refusal.TheVariants.{Installed}

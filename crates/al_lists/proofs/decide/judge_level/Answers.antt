@@ -1,4 +1,4 @@
-use Rattle.std.proofs.Common.{None, refl, sym, ap, ◌∙◌, not, true}
+use Rattle.std.proofs.Common.{None, refl, ap, ◌∙◌, not, true}
 use Rattle.al_model.specs.Sames.{same_rule}
 use Rattle.al_model.specs.declared.decision.Reply.TheVariants.{Done}
 use Rattle.al_model.specs.declared.request.Request.TheVariants.{SetLevel}

@@ -1,4 +1,4 @@
-use Rattle.std.proofs.Common.{None, refl, sym, ap, ◌∙◌, not, true, ◌==◌}
+use Rattle.std.proofs.Common.{None, refl, sym, ap, ◌∙◌, not, ◌==◌}
 use Rattle.std.specs.Option.{option_eq}
 use Rattle.al_model.proofs.Validity.{bounded_alarms}
 use Rattle.al_model.specs.declared.decision.Reply.TheVariants.{Done}

@@ -1,4 +1,4 @@
-use Rattle.std.proofs.Common.{Option, None, Some, refl, sym, ap, ◌∙◌, true, false}
+use Rattle.std.proofs.Common.{Option, None, refl, sym, ap, ◌∙◌, true, false}
 use Rattle.std.specs.Option.{is_some, option_copied, option_map, option_or}
 use Rattle.al_alarms.proofs.Sides.{alarm_on, if_at, states_at}
 use Rattle.al_alarms.specs.Views.{AlarmView}

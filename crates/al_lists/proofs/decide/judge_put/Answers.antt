@@ -1,4 +1,4 @@
-use Rattle.std.proofs.Common.{None, Some, refl, sym, ap, ◌∙◌}
+use Rattle.std.proofs.Common.{None, sym, ap, ◌∙◌}
 use Rattle.std.specs.Option.{is_some, option_or, unwrap_or}
 use Rattle.al_model.specs.Decision.{made_or_replaced, unless}
 use Rattle.al_model.specs.declared.decision.Refusal.TheVariants.{NoPoint}

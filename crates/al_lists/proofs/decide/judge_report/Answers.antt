@@ -1,4 +1,4 @@
-use Rattle.std.proofs.Common.{◌≡◌, ◌||◌, ◌&&◌, true, not, refl, sym, ap, ◌∙◌, length}
+use Rattle.std.proofs.Common.{◌||◌, ◌&&◌, true, not, refl, sym, ap, ◌∙◌, length}
 use Rattle.std.specs.Bool.{nat_lt}
 use Rattle.std.specs.Option.{is_none}
 use Rattle.al_base.specs.Limits.{most_alarms, most_shelves}

@@ -1,4 +1,4 @@
-use Rattle.std.proofs.Common.{◌≤◌, length, not, sym, subst, arith, ◌∙◌}
+use Rattle.std.proofs.Common.{◌≤◌, length, not, subst, arith}
 use Rattle.std.specs.Option.{IfSome}
 use Rattle.al_model.proofs.Bounds.{length_filter}
 use Rattle.al_shelf.specs.Places.{is_named, without}

@@ -1,4 +1,4 @@
-use Rattle.std.proofs.Common.{◌≡◌, ◌<◌, arith}
+use Rattle.std.proofs.Common.{◌<◌, arith}
 use Rattle.al_lists.proofs.Asking.{later_fits}
 use Rattle.al_lists.proofs.fits.fits.Goals as goal
 

@@ -1,4 +1,4 @@
-use Rattle.std.proofs.Common.{◌≡◌, ◌==◌, Bool, sym, ap, ◌∙◌, true, false}
+use Rattle.std.proofs.Common.{◌≡◌, ◌==◌, sym, ap, ◌∙◌, true, false}
 use Rattle.al_base.specs.Names.{rank_of}
 use Rattle.al_model.specs.Sames.{same_mode}
 use Rattle.al_notify.specs.declared.rule.NotifyRule.{NotifyRule}
