@@ -2,7 +2,7 @@
 use Rattle.std.proofs.Common.{◌≡◌, ℕ, Bool, true, false, cond, not, ◌&&◌, ◌||◌, List, [], ◌∷◌, length, map, Option, None, Some, refl, ap, sym, ◌∙◌}
 use Rattle.std.specs.Bool.{nat_lt}
 use Rattle.std.specs.List.{AllByRecursion, cons_option, filter as kept, filter_map, list_any}
-use Rattle.std.specs.Option.{is_some, option_map}
+use Rattle.std.specs.Option.{option_map}
 use Rattle.al_model.specs.Alarms.{bounded, facts_of, with_newcomer}
 use Rattle.al_model.specs.Decision.{changes}
 use Rattle.al_model.specs.Events.{after_event, fate, newcomer, set_by, touches}
@@ -22,16 +22,10 @@ use Rattle.al_select.specs.Filters.{compress_takes, purge_takes}
 use Rattle.al_select.specs.declared.compress.CompressFilter.{CompressFilter}
 use Rattle.al_select.specs.declared.purge.PurgeFilter.{PurgeFilter}
 use Rattle.al_lists.specs.Moves.{is_cut, is_in}
-use Rattle.al_alarms.specs.Views.{is_at}
-use Rattle.al_alarms.specs.Views.{compressed, goes}
+use Rattle.al_alarms.specs.Views.{compressed, goes, is_at}
 use Rattle.al_lists.proofs.Moving.{any_like}
 use Rattle.al_lists.proofs.Placing.{or_false}
-use Rattle.al_alarms.proofs.Sides.{mark_is}
-
--- the side of an alarm is told by its mark
-pub at_is_on : (s : State) (side : Side) (a : AlarmState) → IsMarked s a → is_at side a ≡ is_on s side a.key
-at_is_on s sides.List a h = ap (λ o. not (is_some o)) (mark_is s a h)
-at_is_on s sides.Shelf a h = ap is_some (mark_is s a h)
+use Rattle.al_alarms.proofs.Sides.{at_is_on}
 
 -- ---- lists
 
