@@ -2,8 +2,8 @@ mod EscapeLemmas
 mod FindLemmas
 pub mod FrontLaws
 mod FrontLemmas
-mod HeadLemmas
 mod LineLemmas
+mod MemberLemmas
 mod MethodLemmas
 mod PhraseLemmas
 mod RequestLemmas

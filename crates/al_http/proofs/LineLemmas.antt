@@ -1,16 +1,17 @@
 -- How many lines a head has: that of the request, and one for each field.
-use Rattle.std.proofs.Common.{◌≡◌, ℕ, ◌+◌, ◌≤◌, Bool, true, false, ◌==◌, List, [], ◌∷◌, ◌++◌, length, take, drop, refl, sym, ◌∙◌, ap, append_assoc, arith, codes, cond}
-use Rattle.std.specs.List.{AllByRecursion, AllPass, count_by, position_or_len, flat_map}
+use Rattle.std.proofs.Common.{◌≡◌, ℕ, ◌+◌, ◌-◌, ◌≤◌, Bool, true, false, ◌==◌, List, [], ◌∷◌, ◌++◌, length, take, drop, None, Some, refl, sym, ◌∙◌, ap, append_assoc, arith, codes, cond, nat_lt}
+use Rattle.std.specs.List.{AllByRecursion, AllPass, count_by, position, position_or_len, slice_range, flat_map}
 use Rattle.std.proofs.lemmas.Bool.Decides.{nat_tests}
-use Rattle.std.proofs.lemmas.List.{append-nil, drop-drop, length-take, length-map}
+use Rattle.std.proofs.lemmas.List.{append-nil, drop-drop, drop_all, length-take, length-map}
 use Rattle.std.proofs.lemmas.List.Sums.{sum_by-append, sum_by-cons}
 use Rattle.std.proofs.lemmas.List.Elements.{recursion_from_All}
+use Rattle.std.proofs.lemmas.Slice.{between_to_end}
 use Rattle.httparse.specs.declared.spans.HeaderSpan.{HeaderSpan}
 use Rattle.httparse.specs.declared.spans.RequestSpans.{RequestSpans}
 use Rattle.httparse.specs.Grammar.{LineEnd, crlf, lf, print_end, print_blank, print_version, Field, IsField, IsToken, print_field, print_section, is_token_byte, is_uri_byte, is_value_byte, RequestHead, IsRequestHead, print_request}
 use Rattle.httparse.specs.Spans.{header_bytes, name_and_value, IsRequestAt, IsRequestOf}
 use Rattle.al_http.specs.Blocks.{line_feed, carriage_return, is_line_byte, from_first_line, line_count, IsBlock}
-use Rattle.al_http.specs.Requests.{IsHead}
+use Rattle.al_http.specs.Requests.{line_limit, IsHead}
 
 -- the LFs of a text
 abbrev feeds : List ℕ → ℕ
@@ -135,12 +136,25 @@ field_count block spans r h room at =
 pub head_here : (block : List ℕ) (spans : List HeaderSpan) (r : RequestSpans) → IsBlock block → length block ≤ 16384 → length spans ≤ 64 → r.len ≡ length block → IsRequestOf block spans r
     → (h : RequestHead) × IsHead block h × IsRequestAt block spans r h
 head_here block spans r is_block short room whole (h, at) =
-    let none : drop r.len block ≡ [] = rw whole (drop_all block) in
+    let none : drop r.len block ≡ [] = rw whole (drop_all (length block) block (omega arith)) in
     let text : block ≡ print_request h = at.reads.1 ∙ ap (λ t. print_request h ++ t) none ∙ append-nil _ in
     let few = field_count block spans r h room at in
     let lines = lines_of block h at.reads.0 text in
     (h, record { is_block = is_block; short = short; few_lines = omega arith; reads = rw none at at.reads; few_fields = few }, at)
-  where
-    drop_all : (xs : List ℕ) → drop (length xs) xs ≡ []
-    drop_all [] = refl
-    drop_all (x ∷ xs) = drop_all xs
+
+more_lines : (ends : ℕ) → nat_lt 66 ends ≡ nat_lt 65 (ends - 1)
+more_lines ends = grind (arith, nat_tests)
+
+-- the lines of a block are the LFs from its first text on, but for the last
+pub lines_at : (block : List ℕ) (start ends : ℕ) → position is_line_byte block ≡ Some start → ends ≡ count_by (λ b. b == line_feed) (slice_range block start (length block)) → nat_lt 66 ends ≡ nat_lt line_limit (line_count block)
+lines_at block start ends found count =
+    let is : position_or_len is_line_byte block ≡ start = grind (arith, nat_tests) in
+    let within : start ≤ length block = grind (arith, nat_tests) in
+    let same : ends ≡ feeds (drop start block) = count ∙ ap feeds (between_to_end block start (length block) (omega arith)) in
+    rw (is, ← same) (more_lines ends)
+
+-- without text there is none
+pub no_lines : (block : List ℕ) → position is_line_byte block ≡ None → false ≡ nat_lt line_limit (line_count block)
+no_lines block none =
+    let past : length block ≤ position_or_len is_line_byte block = grind (arith, nat_tests) in
+    rw (drop_all (position_or_len is_line_byte block) block past) refl

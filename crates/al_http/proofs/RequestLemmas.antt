@@ -1,5 +1,6 @@
 -- The request whose head and body stand at the front.
 use Rattle.std.proofs.Common.{◌≡◌, ℕ, ◌+◌, ◌≤◌, ◌<◌, ◌==◌, ◌&&◌, cond, List, [], ◌∷◌, ◌++◌, length, take, drop, Bool, true, false, if◌then◌else◌, Option, None, Result, Ok, Err, refl, sym, ◌∙◌, ap, inl, inr, append_assoc, arith}
+use Rattle.std.specs.Prelude.{IfSome}
 use Rattle.std.proofs.lemmas.Bool.Decides.{nat_tests}
 use Rattle.std.proofs.lemmas.List.{take-append-drop, length-take, length-take-le, length-drop, drop-drop}
 use Rattle.httparse.specs.declared.spans.HeaderSpan.{HeaderSpan}
@@ -9,11 +10,14 @@ use Rattle.al_http.specs.declared.framer.Stop.TheVariants.{Cut}
 use Rattle.httparse.specs.Grammar.{LineEnd, crlf, lf, print_blank}
 use Rattle.al_http.specs.Blocks.{line_feed, carriage_return, IsBlock, HoldsNoBlock, AreEmptyLines}
 use Rattle.al_http.specs.Scans.{are_line_ends}
-use Rattle.al_http.specs.Requests.{FirstRequest, HasEnded, IsRejected, IsCut, head_limit}
-use Rattle.al_http.specs.Moves.{IsAll}
+use Rattle.al_http.specs.declared.rejection.Rejection.{Rejection}
+use Rattle.al_http.specs.declared.rejection.Rejection.TheVariants.{Bad, HeadTooBig, BodyTooBig, Unimplemented}
+use Rattle.al_http.specs.Requests.{FirstRequest, head_limit}
+use Rattle.al_http.specs.Ends.{HasEnded, RejectsBlock, HasRejectedBlock, IsRejected, IsCut}
+use Rattle.al_http.specs.Moves.{IsAll, stop_of, Stops}
 use Rattle.al_http.specs.InputBuffers.{Finds}
 use Rattle.al_http.specs.Shown.{message_at}
-use Rattle.al_http.specs.Heads.{ReadsHead, RejectsBlock}
+use Rattle.al_http.specs.Heads.{ReadsHead}
 use Rattle.al_http.proofs.StreamLemmas.{front_kept, all_has}
 
 -- bytes are a front of n, then m more, and the rest
@@ -40,15 +44,30 @@ first_request held more rest len size spans head reads within kept full =
       says = rw (block, reads.at.method, reads.at.path, reads.at.version, reads.at.fields) refl;
     }
 
--- the block at the front, which is no head that frames a body, is refused
-pub rejected_block : (held more : List ℕ) (len : ℕ) → IsBlock (take len held) → RejectsBlock (take len held) → IsRejected (held ++ more)
-rejected_block held more len is_block refuses = inr (record {
+-- a rejected block is what rejects the bytes
+by_block : (rejection : Rejection) (bytes : List ℕ) → HasRejectedBlock rejection bytes → IsRejected rejection bytes
+by_block HeadTooBig bytes block = inr block
+by_block Bad bytes block = block
+by_block Unimplemented bytes block = block
+by_block BodyTooBig bytes block = block
+
+-- the block at the front is rejected
+pub rejected_block : (rejection : Rejection) (held more : List ℕ) (len : ℕ) → IsBlock (take len held) → len ≤ head_limit → RejectsBlock rejection (take len held) → IsRejected rejection (held ++ more)
+rejected_block rejection held more len is_block short rejects = by_block rejection (held ++ more) (record {
   text = take len held;
   rest = drop len held ++ more;
   parts = ap (λ t. t ++ more) (sym (take-append-drop len held)) ∙ append_assoc (take len held) (drop len held) more;
   is_block = is_block;
-  refused = refuses;
+  short = omega (arith, short, length-take len held);
+  rejected = rejects;
 })
+
+-- and that is its stop
+pub stops_so : (rejection : Rejection) (stream : Option (List ℕ)) → IfSome stream (IsRejected rejection) → Stops (stop_of rejection) stream
+stops_so Bad stream is = is
+stops_so HeadTooBig stream is = is
+stops_so BodyTooBig stream is = is
+stops_so Unimplemented stream is = is
 
 -- the head that was read lacks some of its body
 pub cut_body : (held more : List ℕ) (len size : ℕ) (spans : List HeaderSpan) (head : RequestSpans) → ReadsHead (take len held) spans head size

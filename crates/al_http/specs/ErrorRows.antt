@@ -1,4 +1,6 @@
 -- The refusals of alarmd: for each its number, status and text (RFC 8040, section 7).
+use Rattle.al_http.specs.declared.rejection.Rejection.{Rejection}
+use Rattle.al_http.specs.declared.rejection.Rejection.TheVariants.{Bad, HeadTooBig, BodyTooBig, Unimplemented}
 use Rattle.std.specs.Prelude.{ℕ, ◌-◌, ◌≤◌, List, [], ◌∷◌, ◌++◌, codes, slice_index_or}
 
 -- what a refusal tells
@@ -57,10 +59,14 @@ error_rows =
 abbrev pub IsErrorRow : ℕ → Type 0
 IsErrorRow number = (1 ≤ number) × (number ≤ 29)
 
--- the rows that the code names, by their numbers
-abbrev pub bad_head : ℕ
-bad_head = 1
+-- the row that tells why an input is rejected
+abbrev pub rejection_row : Rejection → ℕ
+rejection_row Bad = 1
+rejection_row HeadTooBig = 2
+rejection_row BodyTooBig = 3
+rejection_row Unimplemented = 4
 
+-- the rows that the code names, by their numbers
 abbrev pub no_such_path : ℕ
 no_such_path = 5
 

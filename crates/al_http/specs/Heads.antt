@@ -1,10 +1,10 @@
 -- What a head was read as.
-use Rattle.std.specs.Prelude.{◌≡◌, ℕ, List, length}
+use Rattle.std.specs.Prelude.{◌≡◌, ℕ, List, length, Ok}
 use Rattle.httparse.specs.declared.spans.HeaderSpan.{HeaderSpan}
 use Rattle.httparse.specs.declared.spans.RequestSpans.{RequestSpans}
 use Rattle.httparse.specs.Grammar.{RequestHead}
 use Rattle.httparse.specs.Spans.{IsRequestWithin, IsRequestAt}
-use Rattle.al_http.specs.Requests.{fields_of, Frames, IsHead}
+use Rattle.al_http.specs.Requests.{fields_of, framing_of, IsHead}
 
 -- the block is a head with its parts at those places, and frames a body of that size
 pub record ReadsHead (block : List ℕ) (spans : List HeaderSpan) (head : RequestSpans) (size : ℕ) : Type 0 where
@@ -13,8 +13,4 @@ pub record ReadsHead (block : List ℕ) (spans : List HeaderSpan) (head : Reques
   pub tree : RequestHead
   pub is_head : IsHead block tree
   pub at : IsRequestAt block spans head tree
-  pub frames : Frames (fields_of tree) size
-
--- the block is no head that frames a body
-abbrev pub RejectsBlock : List ℕ → Type 0
-RejectsBlock block = (tree : RequestHead) (size : ℕ) → IsHead block tree → ¬ (Frames (fields_of tree) size)
+  pub frames : framing_of (fields_of tree) ≡ Ok size

@@ -1,15 +1,15 @@
 -- What the buffer of a framer holds and gives.
-use Rattle.std.specs.Prelude.{◌≡◌, ℕ, ◌≤◌, List, length, take, slice_range, vec_len, Option, Some, None, Result, Ok, Err, IfSome, ⊤}
+use Rattle.std.specs.Prelude.{◌≡◌, ℕ, ◌≤◌, List, length, take, slice_range, vec_len, Option, Some, None, Result, Ok, Err, IfSome}
 use Rattle.std.specs.Io.KnownBytes.{Keeps}
 use Rattle.httparse.specs.Spans.{IsRequestWithin}
 use Rattle.al_http.specs.declared.input_buffer.InputBuffer.{InputBuffer}
 use Rattle.al_http.specs.declared.input_buffer.Extent.{Extent}
 use Rattle.al_http.specs.declared.framer.Stop.{Stop}
-use Rattle.al_http.specs.declared.framer.Stop.TheVariants.{ReadFault, Cut, Bad}
 use Rattle.al_http.specs.Blocks.{IsBlock}
-use Rattle.al_http.specs.Requests.{RequestMessage, head_limit, HasEnded, IsCut, IsRejected}
+use Rattle.al_http.specs.Requests.{RequestMessage, head_limit}
+use Rattle.al_http.specs.Ends.{HasEnded}
 use Rattle.al_http.specs.Shown.{message_at}
-use Rattle.al_http.specs.Moves.{TakesRequest}
+use Rattle.al_http.specs.Moves.{TakesRequest, Stops}
 
 -- the bytes that were read and not yet given
 abbrev pub held_bytes : InputBuffer → List ℕ
@@ -36,16 +36,12 @@ pub record IsExtentOn (buffer : InputBuffer) (extent : Extent) : Type 0 where
 abbrev pub Finds : List ℕ → Option (List ℕ) → Result (Option ℕ) Stop → Type 0
 Finds held stream (Ok (Some len)) = (len ≤ length held) × (len ≤ head_limit) × IsBlock (take len held)
 Finds held stream (Ok None) = IfSome stream HasEnded
-Finds held stream (Err Cut) = IfSome stream IsCut
-Finds held stream (Err Bad) = IfSome stream IsRejected
-Finds held stream (Err ReadFault) = ⊤
+Finds held stream (Err stop) = Stops stop stream
 
 -- the stream lost the request of that extent, or it stayed, and ends as the answer says
 abbrev pub Takes : InputBuffer → Option (List ℕ) → Option (List ℕ) → Result Extent Stop → Type 0
 Takes buffer old new (Ok extent) = IsExtentOn buffer extent × TakesRequest old new (message_on buffer extent)
-Takes buffer old new (Err Cut) = Keeps old new × IfSome old IsCut
-Takes buffer old new (Err Bad) = Keeps old new × IfSome old IsRejected
-Takes buffer old new (Err ReadFault) = Keeps old new
+Takes buffer old new (Err stop) = Keeps old new × Stops stop old
 
 -- the same, or the stream has ended
 abbrev pub Serves : InputBuffer → Option (List ℕ) → Option (List ℕ) → Result (Option Extent) Stop → Type 0

@@ -1,14 +1,15 @@
 -- Laws of the request stream, and of writes one after the other.
-use Rattle.std.specs.Prelude.{◌≡◌, ℕ, ◌<◌, List, [], ◌∷◌, ◌++◌, length, Option, Some, None, Ok, Err}
+use Rattle.std.specs.Prelude.{◌≡◌, ℕ, ◌<◌, true, List, [], ◌∷◌, ◌++◌, length, Option, Some, None, Ok, Err}
 use Rattle.std.specs.Io.KnownBytes.{Appends}
 use Rattle.al_http.specs.Fronts.{AppendsFront}
 use Rattle.al_http.specs.declared.framer.Stop.TheVariants.{ReadFault}
-use Rattle.al_http.specs.declared.framer.Stop.TheVariants as stops
+use Rattle.al_http.specs.declared.framer.Stop.{Stop}
 use Rattle.al_http.specs.declared.request.HttpRequest.{HttpRequest}
-use Rattle.al_http.specs.Requests.{RequestMessage, FirstRequest}
-use Rattle.al_http.specs.Streams.{Ending, Ended, Limit, Cut, Rejected, RestEnds, request_limit, IsStream, HasGiven, IsWhole}
+use Rattle.al_http.specs.Requests.{RequestMessage, is_last, FirstRequest}
+use Rattle.al_http.specs.Streams.{Ending, Ended, Closed, Limit, GoOn, RestEnds, request_limit, IsStream, HasGiven, IsWhole}
 use Rattle.al_http.specs.Shown.{message_of}
 use Rattle.al_http.specs.Moves.{Moves}
+use Rattle.al_http.specs.Told.{ending_at}
 
 -- bytes have one first request at most
 abbrev pub HasOneRequest : List ℕ → Type 0
@@ -44,14 +45,18 @@ StaysAtFault =
     (start old new : Option (List ℕ)) (requests : List RequestMessage)
     → HasGiven start requests old → Moves old new (Err ReadFault) → HasGiven start requests new
 
--- and with any other answer, and at the limit, knows the whole stream.
+-- and with any other answer, at the limit, and behind a request that is last, knows the whole stream.
 abbrev pub EndsWhole : Type 0
 EndsWhole =
-    (start old new : Option (List ℕ)) (requests : List RequestMessage) → HasGiven start requests old
+    (start old new : Option (List ℕ)) (requests : List RequestMessage) → HasGiven start requests old → GoOn requests
     → (length requests < request_limit → Moves old new (Ok None) → IsWhole start requests Ended)
-    × (length requests < request_limit → Moves old new (Err stops.Cut) → IsWhole start requests Cut)
-    × (length requests < request_limit → Moves old new (Err stops.Bad) → IsWhole start requests Rejected)
+    × ((stop : Stop) (ending : Ending) → length requests < request_limit → Moves old new (Err stop) → ending_at stop ≡ Some ending → IsWhole start requests ending)
     × (length requests ≡ request_limit → IsWhole start requests Limit)
+
+abbrev pub ClosesWhole : Type 0
+ClosesWhole =
+    (start new : Option (List ℕ)) (requests : List RequestMessage) (request : RequestMessage) → HasGiven start (requests ++ request ∷ []) new
+    → GoOn requests → is_last request ≡ true → length requests < request_limit → IsWhole start (requests ++ request ∷ []) Closed
 
 -- A text and then another are the two, one after the other,
 abbrev pub WholeThenWhole : Type 0

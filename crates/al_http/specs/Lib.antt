@@ -1,5 +1,6 @@
 pub mod Blocks
 pub mod InputBuffers
+pub mod Ends
 pub mod ErrorRows
 pub mod Fronts
 pub mod Heads
@@ -10,6 +11,7 @@ pub mod Phrases
 pub mod Requests
 pub mod Responses
 pub mod Scans
+pub mod Services
 pub mod Shown
 pub mod Streams
 pub mod Told

@@ -1,12 +1,14 @@
 -- Requests out of bytes: a head, by the grammar of httparse (RFC 9112, sections 2 to 5), and exactly its body (section 6).
-use Rattle.std.specs.Prelude.{◌≡◌, ℕ, ◌+◌, ◌<◌, ◌≤◌, ◌⊎◌, Bool, ◌==◌, ◌&&◌, if◌then◌else◌, nat_le, List, [], ◌∷◌, ◌++◌, length, take, drop, map, filter, position, codes, Option, Some, None, option_map}
-use Rattle.std.specs.List.{before_first, list_all}
+use Rattle.std.specs.Prelude.{◌≡◌, ℕ, ◌+◌, ◌≤◌, Bool, ◌==◌, ◌&&◌, ◌||◌, if◌then◌else◌, nat_le, List, [], ◌∷◌, ◌++◌, length, drop, map, filter, position, codes, Option, Some, None, option_map, Result, Ok, Err}
+use Rattle.std.specs.List.{before_first, list_all, list_any, slice_split}
 use Rattle.std.specs.Char.{is_ascii_digit}
 use Rattle.std.specs.Str.{str_eq_ignore_ascii_case}
 use Rattle.std.specs.Str.Parse.{digits_value}
-use Rattle.httparse.specs.Grammar.{RequestHead, ReadsRequest}
+use Rattle.httparse.specs.Grammar.{RequestHead, ReadsRequest, trim_ows}
 use Rattle.httparse.specs.Spans.{name_and_value}
-use Rattle.al_http.specs.Blocks.{IsBlock, HoldsNoBlock, line_count, AreEmptyLines}
+use Rattle.al_http.specs.Blocks.{IsBlock, line_count}
+use Rattle.al_http.specs.declared.rejection.Rejection.{Rejection}
+use Rattle.al_http.specs.declared.rejection.Rejection.TheVariants.{Bad, BodyTooBig, Unimplemented}
 
 -- the most bytes of a head
 abbrev pub head_limit : ℕ
@@ -62,11 +64,17 @@ stated_length [] = Some 0
 stated_length (value ∷ []) = digits_number value
 stated_length (value ∷ other ∷ values) = None
 
--- The fields frame a body of that size (RFC 9112, section 6.3, without transfer codings).
-pub record Frames (fields : List (List ℕ × List ℕ)) (size : ℕ) : Type 0 where
-  pub plain : values_of (codes "transfer-encoding") fields ≡ []
-  pub stated : stated_length (values_of (codes "content-length") fields) ≡ Some size
-  pub fits : size ≤ body_limit
+-- How fields frame a body, by the first of these that applies: a transfer coding isn't read, a length is stated in one way, and it is
+-- within the limit.
+abbrev pub framing_by : List (List ℕ) → Option ℕ → Result ℕ Rejection
+framing_by (coding ∷ codings) stated = Err Unimplemented
+framing_by [] None = Err Bad
+framing_by [] (Some size) = if nat_le size body_limit then Ok size else Err BodyTooBig
+
+-- the length of the body, by the fields Transfer-Encoding and Content-Length, or why it isn't read (RFC 9112, section 6.3)
+abbrev pub framing_of : List (List ℕ × List ℕ) → Result ℕ Rejection
+framing_of fields =
+    framing_by (values_of (codes "transfer-encoding") fields) (stated_length (values_of (codes "content-length") fields))
 
 -- The block is, from its first byte to its last, that head, and is within the limits.
 pub record IsHead (block : List ℕ) (head : RequestHead) : Type 0 where
@@ -85,54 +93,26 @@ abbrev pub request_of : RequestHead → List ℕ → RequestMessage
 request_of head body =
     record { method = head.method; target = head.target; minor = head.minor; fields = fields_of head; body = body }
 
+abbrev pub is_comma : ℕ → Bool
+is_comma b = b == 44
+
+-- a part of a field's value is the member, without the spaces and tabs around it and in any ASCII case
+abbrev pub names : List ℕ → List ℕ → Bool
+names member part = str_eq_ignore_ascii_case (trim_ows part) member
+
+-- some part of a field's value between commas is the member (RFC 9110, section 5.6.1)
+abbrev pub has_member : List ℕ → List ℕ → Bool
+has_member member value = list_any (names member) (slice_split is_comma value)
+
+-- nothing is answered behind a request of HTTP/1.0, and none whose Connection field says so (RFC 9112, section 9.3)
+abbrev pub is_last : RequestMessage → Bool
+is_last request = request.minor == 0 || list_any (has_member (codes "close")) (values_of (codes "connection") request.fields)
+
 -- The bytes are that request, a head and exactly its body, and then the rest.
 pub record FirstRequest (bytes : List ℕ) (request : RequestMessage) (rest : List ℕ) : Type 0 where
   pub text : List ℕ
   pub head : RequestHead
   pub parts : bytes ≡ text ++ (request.body ++ rest)
   pub is_head : IsHead text head
-  pub frames : Frames (fields_of head) (length request.body)
+  pub frames : framing_of (fields_of head) ≡ Ok (length request.body)
   pub says : request ≡ request_of head request.body
-
--- Nothing but empty lines, less than a head may take.
-pub record HasEnded (bytes : List ℕ) : Type 0 where
-  pub short : length bytes < head_limit
-  pub empty_lines : AreEmptyLines bytes
-
--- What a head may take is there without a block.
-pub record IsTooLong (bytes : List ℕ) : Type 0 where
-  pub long : head_limit ≤ length bytes
-  pub no_block : HoldsNoBlock (take head_limit bytes)
-
--- The block at the front is no head that frames a body.
-pub record HasRejectedBlock (bytes : List ℕ) : Type 0 where
-  pub text : List ℕ
-  pub rest : List ℕ
-  pub parts : bytes ≡ text ++ rest
-  pub is_block : IsBlock text
-  pub refused : (head : RequestHead) (size : ℕ) → IsHead text head → ¬ (Frames (fields_of head) size)
-
--- The bytes are rejected: they hold no head where one has to be.
-abbrev pub IsRejected : List ℕ → Type 0
-IsRejected bytes = IsTooLong bytes ⊎ HasRejectedBlock bytes
-
--- The bytes end before the head does.
-pub record LacksBlock (bytes : List ℕ) : Type 0 where
-  pub short : length bytes < head_limit
-  pub no_block : HoldsNoBlock bytes
-  pub some_text : ¬ (AreEmptyLines bytes)
-
--- The bytes end before the body does.
-pub record LacksBody (bytes : List ℕ) : Type 0 where
-  pub text : List ℕ
-  pub head : RequestHead
-  pub part : List ℕ
-  pub size : ℕ
-  pub parts : bytes ≡ text ++ part
-  pub is_head : IsHead text head
-  pub frames : Frames (fields_of head) size
-  pub lacks : length part < size
-
--- The bytes end inside a request.
-abbrev pub IsCut : List ℕ → Type 0
-IsCut bytes = LacksBlock bytes ⊎ LacksBody bytes

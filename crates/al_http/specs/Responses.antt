@@ -4,8 +4,9 @@ use Rattle.std.specs.Char.{is_ascii_alphanumeric}
 use Rattle.std.specs.Fmt.{digit_glyph}
 use Rattle.std.specs.Int.{bit_at}
 use Rattle.std.specs.List.{join_by}
-use Rattle.al_http.specs.ErrorRows.{IsErrorRow, error_row, error_text, bad_head}
+use Rattle.al_http.specs.ErrorRows.{IsErrorRow, error_row, error_text, rejection_row}
 use Rattle.al_http.specs.Phrases.{HasPhrase, phrase_of}
+use Rattle.al_http.specs.declared.rejection.Rejection.{Rejection}
 use Rattle.al_http.specs.declared.response.Content.{Content}
 use Rattle.al_http.specs.declared.response.Content.TheVariants.{Empty, Row, HostMeta, Tree}
 use Rattle.al_http.specs.declared.response.Response.{Response}
@@ -133,5 +134,5 @@ abbrev pub out_of_memory_response : ℕ → Response
 out_of_memory_response place = bodiless 503 (Some place)
 
 -- the answer to bytes that are rejected, which is always the last
-abbrev pub rejection_response : Response
-rejection_response = refusal bad_head None
+abbrev pub rejection_response : Rejection → Response
+rejection_response rejection = refusal (rejection_row rejection) None

@@ -5,9 +5,6 @@ ghost use Rattle.al_http.specs.ErrorRows.{IsErrorRow, error_row as row_of, trans
 ghost use Rattle.al_http.specs.Phrases.{HasPhrase};
 ghost use Rattle.al_http.specs.Told.{told};
 
-/// The number of the refusal `bad head`.
-pub const BAD_HEAD: u8 = 1;
-
 /// The number of the refusal `no such path`.
 pub const NO_SUCH_PATH: u8 = 5;
 

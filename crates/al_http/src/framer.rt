@@ -18,8 +18,14 @@ pub enum Stop {
     ReadFault,
     /// The input ends inside a request.
     Cut,
-    /// The input is rejected: its head is bad.
+    /// The input has no head where one has to be, or its head states no length of the body.
     Bad,
+    /// The head has more than 16,384 bytes or 65 lines.
+    HeadTooBig,
+    /// The body has more than 1,048,576 bytes.
+    BodyTooBig,
+    /// The body comes in a transfer coding.
+    Unimplemented,
 }
 
 impl fmt::Display for Stop {
@@ -28,6 +34,9 @@ impl fmt::Display for Stop {
             Stop::ReadFault => "a read failed",
             Stop::Cut => "the input ends inside a request",
             Stop::Bad => "the input has a bad head",
+            Stop::HeadTooBig => "the input has too big a head",
+            Stop::BodyTooBig => "the input has too big a body",
+            Stop::Unimplemented => "the input has a transfer coding",
         })
     }
 }

@@ -1,6 +1,6 @@
 //! The buffer of a framer: what it has read and not yet given.
 
-ghost use Rattle.std.specs.Prelude.{◌≡◌, ◌+◌, ◌-◌, ◌<◌, ◌≤◌, [], length, take, drop, slice_range, vec_len, min, if◌then◌else◌, IfOk, OnErr, IfSome, IfNone, Ok, Err, None, true, false};
+ghost use Rattle.std.specs.Prelude.{◌≡◌, ◌+◌, ◌-◌, ◌<◌, ◌≤◌, [], length, take, drop, slice_range, vec_len, min, if◌then◌else◌, IfOk, IfErr, OnErr, Ok, Err, None, true, false};
 ghost use Rattle.al_http.specs.Requests.{head_limit, field_limit, request_room};
 ghost use Rattle.al_http.specs.Scans.{are_line_ends};
 ghost use Rattle.std.specs.Io.KnownBytes.{Keeps, Consumes};
@@ -8,6 +8,7 @@ ghost use Rattle.al_base.specs.Outside.{Rose, TellsEnd};
 
 use crate::framer::Stop;
 use crate::head::{MAX_BODY, read_head};
+use crate::rejection::Rejection;
 use crate::request::HttpRequest;
 use crate::scan::{Look, Seen, is_blank, look_on};
 use al_base::{ReadFault, Source};
@@ -50,7 +51,8 @@ pub(crate) struct Extent {
 impl InputBuffer {
     ghost use Rattle.httparse.specs.Spans.{IsRequestWithin};
     ghost use Rattle.al_http.specs.Blocks.{IsBlock};
-    ghost use Rattle.al_http.specs.Heads.{ReadsHead, RejectsBlock};
+    ghost use Rattle.al_http.specs.Ends.{RejectsBlock};
+    ghost use Rattle.al_http.specs.Heads.{ReadsHead};
     ghost use Rattle.al_http.specs.Moves.{stream_of, IsAll};
     ghost use Rattle.al_http.specs.Shown.{message_at, message_of};
     ghost use Rattle.al_http.specs.InputBuffers.{held_bytes, message_on, IsExtentOn, Finds, Takes, Serves};
@@ -164,7 +166,7 @@ impl InputBuffer {
             }
             done = end;
             if done == MAX_HEAD {
-                return Err(Stop::Bad);
+                return Err(Stop::HeadTooBig);
             }
             match self.read_more(source) {
                 Ok(true) => {}
@@ -183,8 +185,9 @@ impl InputBuffer {
         ensures later { S.faults source.old ≤ S.faults source.new }
         ensures cause { result ≡ Err Stop.ReadFault → Rose (S.faults source.old) (S.faults source.new) }
     {
-        let Some((head, size)) = self.read_block(len) else {
-            return Err(Stop::Bad);
+        let (head, size) = match self.read_block(len) {
+            Ok(found) => found,
+            Err(rejection) => return Err(rejection.stop()),
         };
         match self.read_up_to(len + size, source) {
             Ok(true) => Ok(self.give(head, size)),
@@ -194,13 +197,13 @@ impl InputBuffer {
     }
 
     /// Reads the head that the block of that length is, and the length of its body.
-    fn read_block(&mut self, len: usize) -> Option<(RequestSpans, usize)>
+    fn read_block(&mut self, len: usize) -> Result<(RequestSpans, usize), Rejection>
         requires within { len ≤ length (held_bytes self.old) }
         requires short { len ≤ head_limit }
         requires is_block { IsBlock (take len (held_bytes self.old)) }
         ensures held { held_bytes self.new ≡ held_bytes self.old }
-        ensures reads { IfSome result (λ found. ReadsHead (take len (held_bytes self.old)) self.new.spans.items found.0 found.1) }
-        ensures refuses { IfNone result (RejectsBlock (take len (held_bytes self.old))) }
+        ensures reads { IfOk result (λ found. ReadsHead (take len (held_bytes self.old)) self.new.spans.items found.0 found.1) }
+        ensures rejects { IfErr result (λ rejection. RejectsBlock rejection (take len (held_bytes self.old))) }
     {
         let block = &self.bytes[self.start..self.start + len];
         read_head(block, &mut self.spans)

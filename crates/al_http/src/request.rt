@@ -1,9 +1,9 @@
 ghost use Rattle.std.specs.Prelude.{◌≡◌, length, position, slice_get, All};
 ghost use Rattle.std.specs.Option.{option_copied};
 ghost use Rattle.httparse.specs.Spans.{IsWithin, IsHeaderWithin, span_bytes};
-ghost use Rattle.al_http.specs.Requests.{is_question_mark, path_of, query_of, values_of};
+ghost use Rattle.al_http.specs.Requests.{is_question_mark, path_of, query_of, values_of, is_last};
 
-use crate::head::value_at;
+use crate::head::{has_member_in, value_at};
 use crate::scan::first_at;
 use httparse::spans::{HeaderSpan, RequestSpans};
 
@@ -86,6 +86,13 @@ impl<'a> HttpRequest<'a> {
         ensures { option_copied result ≡ slice_get (values_of name.now (message_of self.now).fields) n }
     {
         value_at(self.block, self.headers, name, n)
+    }
+
+    /// Whether nothing is answered behind it: it is of HTTP/1.0, or a `Connection` field of it names `close` (RFC 9112, section 9.3).
+    pub fn last(&self) -> bool
+        ensures { result ≡ is_last (message_of self.now) }
+    {
+        self.head.version == 0 || has_member_in(self.block, self.headers, b"connection", b"close")
     }
 
     /// The body.

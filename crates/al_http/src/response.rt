@@ -3,7 +3,8 @@
 ghost use Rattle.std.specs.Prelude.{◌≡◌};
 ghost use Rattle.al_http.specs.ErrorRows.{IsErrorRow};
 
-use crate::error_row::{BAD_HEAD, error_row};
+use crate::error_row::error_row;
+use crate::rejection::Rejection;
 use al_base::{List, Text};
 
 /// What a response's body is made of.
@@ -78,11 +79,11 @@ impl Response {
         Response::bodiless(503, Some(place))
     }
 
-    /// The answer to bytes that are rejected.
-    pub fn of_rejection() -> Response
-        ensures value { result ≡ rejection_response }
+    /// The answer to bytes that are rejected, which is always the last.
+    pub fn of_rejection(rejection: Rejection) -> Response
+        ensures value { result ≡ rejection_response rejection }
         ensures text { HasText result }
     {
-        Response::of_row(BAD_HEAD, None)
+        Response::of_row(rejection.row(), None)
     }
 }

@@ -1,14 +1,15 @@
 //! Laws of the request stream, for every list of bytes, and a walk through a whole one.
 
-ghost use Rattle.std.specs.Prelude.{◌≡◌, ℕ, List, length, IfOk, OnErr};
+ghost use Rattle.std.specs.Prelude.{◌≡◌, ℕ, List, length, Some, IfOk, OnErr};
 ghost use Rattle.al_base.specs.Outside.{Rose};
-ghost use Rattle.al_http.specs.Laws.{HasOneRequest, GoesOnOrEnds, HasOneEnd, IsOneStream, GivesNothingFirst, GivesOneMore, StaysAtFault, EndsWhole};
+ghost use Rattle.al_http.specs.Laws.{HasOneRequest, GoesOnOrEnds, HasOneEnd, IsOneStream, GivesNothingFirst, GivesOneMore, StaysAtFault, EndsWhole, ClosesWhole};
 ghost use Rattle.al_http.specs.Moves.{stream_of};
 ghost use Rattle.al_http.specs.Requests.{RequestMessage};
 ghost use Rattle.al_http.specs.Streams.{IsWhole};
-ghost use Rattle.al_http.specs.Told.{ending_of};
+ghost use Rattle.al_http.specs.Told.{ending_at, ending_of};
 
 use crate::framer::{Framer, Stop};
+use crate::rejection::Rejection;
 use al_base::{ReadFault, Source};
 
 /// The most requests of one stream.
@@ -19,12 +20,14 @@ pub const REQUEST_LIMIT: u64 = 1_000_000;
 pub enum End {
     /// The input ends.
     Input,
+    /// A request was taken behind which nothing is answered.
+    Closed,
     /// The last request that a stream may have was taken.
     Limit,
     /// The input ends inside a request.
     Cut,
     /// The input is rejected.
-    Rejected,
+    Rejected(Rejection),
 }
 
 /// Bytes have one first request at most, or they end, in one way at most. So they are one list of requests at most, with one ending.
@@ -41,6 +44,7 @@ pub fn calls_are_a_run()
     ensures goes_on { GivesOneMore }
     ensures stays { StaysAtFault }
     ensures ends { EndsWhole }
+    ensures closes { ClosesWhole }
 {}
 
 /// Takes all requests of a stream: how many there are, and how it ends. So bytes that are told and read without a fault are such a list.
@@ -51,12 +55,33 @@ pub fn take_all<S: Source>(framer: &mut Framer, source: &mut S) -> Result<(u64, 
     let mut count = 0;
     while count < REQUEST_LIMIT {
         match framer.next(source) {
-            Ok(Some(_)) => count += 1,
+            Ok(Some(request)) => {
+                if request.last() {
+                    return Ok((count + 1, End::Closed));
+                }
+                count += 1;
+            }
             Ok(None) => return Ok((count, End::Input)),
-            Err(Stop::ReadFault) => return Err(ReadFault),
-            Err(Stop::Cut) => return Ok((count, End::Cut)),
-            Err(Stop::Bad) => return Ok((count, End::Rejected)),
+            Err(stop) => match end_at(stop) {
+                Ok(end) => return Ok((count, end)),
+                Err(fault) => return Err(fault),
+            },
         }
     }
     Ok((count, End::Limit))
+}
+
+/// How a stream ends at a stop, but for a read fault.
+fn end_at(stop: Stop) -> Result<End, ReadFault>
+    ensures ends { IfOk result (λ end. ending_at stop ≡ Some (ending_of end)) }
+    ensures fault { OnErr result (stop ≡ Stop.ReadFault) }
+{
+    match stop {
+        Stop::ReadFault => Err(ReadFault),
+        Stop::Cut => Ok(End::Cut),
+        Stop::Bad => Ok(End::Rejected(Rejection::Bad)),
+        Stop::HeadTooBig => Ok(End::Rejected(Rejection::HeadTooBig)),
+        Stop::BodyTooBig => Ok(End::Rejected(Rejection::BodyTooBig)),
+        Stop::Unimplemented => Ok(End::Rejected(Rejection::Unimplemented)),
+    }
 }

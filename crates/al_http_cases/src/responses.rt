@@ -4,7 +4,7 @@ ghost use Rattle.std.specs.Prelude.{IfOk};
 ghost use Rattle.al_http.specs.Responses.{HasText};
 
 use al_base::{List, MemSink, Text, WriteFault};
-use al_http::{Content, Response, respond};
+use al_http::{Content, Rejection, Response, respond};
 use std::alloc::Global;
 use std::test::Fail;
 
@@ -41,15 +41,21 @@ fn creation(alloc: Global, name: &[u8]) -> Result<Response, Fail>
     })
 }
 
-/// An answer without memory, or a refusal; the allowed methods are told with 405 alone.
-fn refusal(row: u8) -> Response
+/// A refusal of a method; with the body of it left out, as HEAD asks.
+fn refusal(bare: bool) -> Response
     ensures { HasText result }
 {
-    let mut response = if row == 9 {
-        Response::of_row(9, Some(7))
-    } else {
-        Response::of_rejection()
-    };
+    let mut response = Response::of_row(9, Some(7));
+    response.allow = 6;
+    response.bare = bare;
+    response
+}
+
+/// What tells that an input is rejected. The allowed methods are told with 405 alone.
+fn rejection(reason: Rejection) -> Response
+    ensures { HasText result }
+{
+    let mut response = Response::of_rejection(reason);
     response.allow = 6;
     response
 }
@@ -99,12 +105,32 @@ fn case(alloc: Global, number: u8) -> Result<Case, Fail>
             b"HTTP/1.1 200 OK\r\nAlarm-Place: 5\r\nContent-Length: 100\r\nContent-Type: application/xrd+xml\r\n\r\n<XRD xmlns='http://docs.oasis-open.org/ns/xri/xrd-1.0'><Link rel='restconf' href='/restconf'/></XRD>",
         ),
         6 => (
-            refusal(1),
+            rejection(Rejection::Bad),
             true,
             b"HTTP/1.1 400 Bad Request\r\nConnection: close\r\nContent-Length: 122\r\nContent-Type: application/yang-data+json\r\n\r\n{\"ietf-restconf:errors\":{\"error\":[{\"error-message\":\"bad head\",\"error-tag\":\"malformed-message\",\"error-type\":\"transport\"}]}}",
         ),
+        7 => (
+            rejection(Rejection::HeadTooBig),
+            true,
+            b"HTTP/1.1 413 Payload Too Large\r\nConnection: close\r\nContent-Length: 116\r\nContent-Type: application/yang-data+json\r\n\r\n{\"ietf-restconf:errors\":{\"error\":[{\"error-message\":\"head too big\",\"error-tag\":\"too-big\",\"error-type\":\"transport\"}]}}",
+        ),
+        8 => (
+            rejection(Rejection::BodyTooBig),
+            true,
+            b"HTTP/1.1 413 Payload Too Large\r\nConnection: close\r\nContent-Length: 116\r\nContent-Type: application/yang-data+json\r\n\r\n{\"ietf-restconf:errors\":{\"error\":[{\"error-message\":\"body too big\",\"error-tag\":\"too-big\",\"error-type\":\"transport\"}]}}",
+        ),
+        9 => (
+            rejection(Rejection::Unimplemented),
+            true,
+            b"HTTP/1.1 501 Not Implemented\r\nConnection: close\r\nContent-Length: 135\r\nContent-Type: application/yang-data+json\r\n\r\n{\"ietf-restconf:errors\":{\"error\":[{\"error-message\":\"transfer coding\",\"error-tag\":\"operation-not-supported\",\"error-type\":\"transport\"}]}}",
+        ),
+        10 => (
+            refusal(true),
+            false,
+            b"HTTP/1.1 405 Method Not Allowed\r\nAlarm-Place: 7\r\nAllow: GET, HEAD\r\nContent-Length: 137\r\nContent-Type: application/yang-data+json\r\n\r\n",
+        ),
         _ => (
-            refusal(9),
+            refusal(false),
             false,
             b"HTTP/1.1 405 Method Not Allowed\r\nAlarm-Place: 7\r\nAllow: GET, HEAD\r\nContent-Length: 137\r\nContent-Type: application/yang-data+json\r\n\r\n{\"ietf-restconf:errors\":{\"error\":[{\"error-message\":\"method not allowed\",\"error-tag\":\"operation-not-supported\",\"error-type\":\"protocol\"}]}}",
         ),
@@ -128,7 +154,7 @@ fn written(
 /// Each response is written in one piece.
 #[test]
 fn writes_just_the_text(rt: HostRuntime) -> Result<(), Fail> {
-    for number in 0..8 {
+    for number in 0..12 {
         let (response, last, text) = case(rt.alloc(), number)?;
         let (bytes, answer) = written(rt.alloc(), &response, last, 2)?;
         assert_eq!(rt; answer, Ok(()), "case {number}");

@@ -3,7 +3,7 @@
 ghost use Rattle.std.specs.Prelude.{◌<◌};
 
 use al_base::{MemSource, Source};
-use al_http::{End, Framer, HttpRequest, Stop, take_all};
+use al_http::{End, Framer, HttpRequest, Rejection, Stop, take_all};
 use std::alloc::Global;
 use std::test::Fail;
 
@@ -37,56 +37,104 @@ fn head(alloc: Global, len: usize, fields: usize, ends: usize) -> Result<Vec<u8>
     Ok(input)
 }
 
+/// What an input gives: how many requests, and how it ends.
+type Taken = (u64, End);
+
+const BAD: Taken = (0, End::Rejected(Rejection::Bad));
+
+const HEAD_TOO_BIG: Taken = (0, End::Rejected(Rejection::HeadTooBig));
+
+const BODY_TOO_BIG: Taken = (0, End::Rejected(Rejection::BodyTooBig));
+
+const UNIMPLEMENTED: Taken = (0, End::Rejected(Rejection::Unimplemented));
+
+/// Inputs, each with what it gives in pieces of any size.
+const STREAMS: [(&[u8], Taken); 23] = [
+    (b"", (0, End::Input)),
+    (b"\r\n\n", (0, End::Input)),
+    (b"\r", (0, End::Cut)),
+    (b"GET / HT", (0, End::Cut)),
+    (b"\0GET / HTTP/1.1\r\n\r\n", BAD),
+    (b"\0GET / HTTP/1.1\r\n", (0, End::Cut)),
+    (
+        b"\n\nGET / HTTP/1.1\n\r\nPUT /b HTTP/1.1\nContent-Length: 0000000003\n\nabcGET /c HTTP/1.1\r\n\r\n",
+        (3, End::Input),
+    ),
+    // a request that is last, and what follows it
+    (b"GET / HTTP/1.0\n\n\0\n\n", (1, End::Closed)),
+    (
+        b"GET / HTTP/1.1\n\nGET / HTTP/1.1\nConnection: close\n\nxyz",
+        (2, End::Closed),
+    ),
+    (
+        b"GET / HTTP/1.1\nconnection: a\nCONNECTION: b,\t Close ,c\n\n",
+        (1, End::Closed),
+    ),
+    (
+        b"GET / HTTP/1.1\nConnection: closed, clos e,,\nX: close\n\n",
+        (1, End::Input),
+    ),
+    // the length of a body
+    (
+        b"GET / HTTP/1.1\nContent-Length: 0\ncontent-length: 0\n\n",
+        BAD,
+    ),
+    (b"GET / HTTP/1.1\nContent-Length: 00000000000\n\n", BAD),
+    (b"GET / HTTP/1.1\nContent-Length: +5\n\n", BAD),
+    (b"GET / HTTP/1.1\nContent-Length:\n\n", BAD),
+    (
+        b"GET / HTTP/1.1\nContent-Length: 1048576\n\n",
+        (0, End::Cut),
+    ),
+    (b"GET / HTTP/1.1\nContent-Length: 1048577\n\n", BODY_TOO_BIG),
+    (
+        b"GET / HTTP/1.1\nContent-Length: 9999999999\n\n",
+        BODY_TOO_BIG,
+    ),
+    // a transfer coding goes before the length, and after the head
+    (
+        b"GET / HTTP/1.1\nTransfer-Encoding: chunked\n\n",
+        UNIMPLEMENTED,
+    ),
+    (
+        b"GET / HTTP/1.1\ntransfer-encoding:\nContent-Length: +5\n\n",
+        UNIMPLEMENTED,
+    ),
+    (
+        b"GET / HTTP/1.1\nContent-Length: 1048577\nTransfer-Encoding: a\n\n",
+        UNIMPLEMENTED,
+    ),
+    (b"GET / HTTP/1.2\nTransfer-Encoding: a\n\n", BAD),
+    // a rejection is the end of it all
+    (
+        b"GET / HTTP/1.1\nTransfer-Encoding: a\n\nGET / HTTP/1.1\n\n",
+        UNIMPLEMENTED,
+    ),
+];
+
 #[test]
 fn streams_end_as_they_do(rt: HostRuntime) -> Result<(), Fail> {
-    let cases: [(&[u8], (u64, End)); 11] = [
-        (b"", (0, End::Input)),
-        (b"\r\n\n", (0, End::Input)),
-        (b"\r", (0, End::Cut)),
-        (b"GET / HT", (0, End::Cut)),
-        (b"\0GET / HTTP/1.1\r\n\r\n", (0, End::Rejected)),
-        (b"\0GET / HTTP/1.1\r\n", (0, End::Cut)),
-        (
-            b"\n\nGET / HTTP/1.1\n\r\nPUT /b HTTP/1.1\nContent-Length: 0000000003\n\nabcGET /c HTTP/1.0\r\n\r\n",
-            (3, End::Input),
-        ),
-        (
-            b"GET / HTTP/1.1\nContent-Length: 0\ncontent-length: 0\n\n",
-            (0, End::Rejected),
-        ),
-        (
-            b"GET / HTTP/1.1\nTransfer-Encoding: chunked\n\n",
-            (0, End::Rejected),
-        ),
-        (
-            b"GET / HTTP/1.1\nContent-Length: 1048576\n\n",
-            (0, End::Cut),
-        ),
-        (
-            b"GET / HTTP/1.1\nContent-Length: 1048577\n\n",
-            (0, End::Rejected),
-        ),
-    ];
     let mut framer = Framer::new(rt.alloc())?;
-    for (input, expected) in cases.iter() {
+    for (input, expected) in STREAMS {
         for size in 1..50 {
-            let taken = take_pieces(rt.alloc(), &mut framer, *input, size)?;
-            assert_eq!(rt; taken, *expected);
+            let taken = take_pieces(rt.alloc(), &mut framer, input, size)?;
+            assert_eq!(rt; taken, expected, "{input:?}");
         }
     }
     Ok(())
 }
 
-// Each row: the bytes up to the end of the first field, the fields, the LFs behind them, the end.
+// Each row: the bytes up to the end of the first field, the fields, the LFs behind them, what comes of it.
 #[test]
 fn heads_are_within_their_limits(rt: HostRuntime) -> Result<(), Fail> {
     let rows = [
         (20, 64, 2, (1, End::Input)),
-        (20, 65, 2, (0, End::Rejected)),
+        (20, 65, 2, HEAD_TOO_BIG),
+        (20, 65, 1, (0, End::Cut)),
         (16_382, 1, 2, (1, End::Input)),
-        (16_383, 1, 2, (0, End::Rejected)),
+        (16_383, 1, 2, HEAD_TOO_BIG),
         (16_383, 1, 0, (0, End::Cut)),
-        (16_384, 1, 0, (0, End::Rejected)),
+        (16_384, 1, 0, HEAD_TOO_BIG),
     ];
     let mut framer = Framer::new(rt.alloc())?;
     for (len, fields, ends, expected) in rows {

@@ -1,23 +1,28 @@
 -- Turns one after the other: what they were asked, what they wrote, and when.
 use Rattle.std.proofs.lemmas.List.{append-nil, length-append, length-map, map-append}
-use Rattle.std.proofs.Common.{◌≡◌, ℕ, ◌+◌, Option, None, Some, Ok, Err, List, [], ◌∷◌, ◌++◌, length, take, refl, sym, ap, ◌∙◌, append_assoc, add-zero, suc, ◌<◌, ◌⊎◌, inl, inr, arith}
+use Rattle.std.proofs.Common.{◌≡◌, ℕ, ◌+◌, true, false, Option, None, Some, Ok, Err, List, [], ◌∷◌, ◌++◌, length, take, refl, sym, ap, ◌∙◌, append_assoc, add-zero, suc, ◌<◌, ◌⊎◌, inl, inr, arith}
 use Rattle.std.specs.Io.KnownBytes.{Appends}
 use Rattle.al_base.specs.Readings.{Readings, after_reading}
 use Rattle.al_base.specs.declared.outside.WriteFault.{WriteFault}
 use Rattle.al_http.proofs.FrontLaws.{appends_more}
-use Rattle.al_http.proofs.StreamLaws.{given_more, ends_ended, ends_cut, ends_rejected, ends_limit}
+use Rattle.al_http.proofs.StreamLaws.{given_more, go_on_more, ends_ended, ends_at, ends_closed, ends_limit}
 use Rattle.al_http.specs.Fronts.{AppendsFront}
 use Rattle.al_http.specs.Moves.{Moves}
 use Rattle.al_http.specs.Shown.{message_of}
+use Rattle.al_http.specs.Told.{ending_at}
+use Rattle.al_http.specs.declared.framer.Stop.{Stop}
 use Rattle.al_http.specs.declared.framer.Stop.TheVariants as stops
+use Rattle.al_http.specs.declared.rejection.Rejection.{Rejection}
+use Rattle.al_http.specs.declared.rejection.Rejection.TheVariants.{Bad, HeadTooBig, BodyTooBig, Unimplemented}
 use Rattle.al_http.specs.declared.request.HttpRequest.{HttpRequest}
 use Rattle.alarmd.specs.declared.conversation.Cause.{Cause}
 use Rattle.alarmd.specs.declared.conversation.Cause.TheVariants as causes
-use Rattle.al_http.specs.Requests.{RequestMessage}
-use Rattle.al_http.specs.Streams.{HasGiven, request_limit}
+use Rattle.al_http.specs.Requests.{RequestMessage, is_last}
+use Rattle.al_http.specs.Streams.{GoOn, HasGiven, IsWhole, request_limit}
+use Rattle.al_http.specs.Streams as endings
 use Rattle.al_report.specs.declared.entry.Entry.{Entry}
 use Rattle.alarmd.specs.Exchanges.{Answers, Turn, IsTurn, IsExchange}
-use Rattle.alarmd.specs.Conversations.{Outside, requests_of, readings_of, text_of, texts_from, texts_of, rejection_text, Gave, GaveKnown, BeginsWith, AppendsInto, IsConversation, TakesTurn}
+use Rattle.alarmd.specs.Conversations.{Outside, requests_of, readings_of, text_of, texts_from, texts_of, rejection_text, Gave, GaveKnown, BeginsWith, TurnsGoOn, AppendsInto, IsConversation, TakesTurn, TellsRejection, EndsAtStop}
 
 -- readings, and then one more
 gave_more : (old : Readings) (readings : List ℕ) (mid : Readings) (reading : ℕ) (new : Readings) → Gave old readings mid → Gave mid (reading ∷ []) new → Gave old (readings ++ reading ∷ []) new
@@ -48,6 +53,7 @@ pub record SoFar (answers : Answers) (origin : ℕ) (before after : List Entry) 
   pub turns : List Turn
   pub exchange : IsExchange answers origin before turns after
   pub requests : HasGiven input (requests_of turns) left
+  pub go_on : TurnsGoOn turns
   pub responses : Appends outside.old_output outside.new_output (texts_of turns)
   pub readings : GaveKnown outside.old_clock (readings_of turns) outside.new_clock
   pub counted : length turns ≡ count
@@ -78,14 +84,15 @@ text_is turns turn count counted =
     texts_more 1 turns turn ∙ ap (λ n. texts_of turns ++ text_of n turn) number
 
 -- a turn whose response was written
-pub so_far_more : (answers : Answers) (origin : ℕ) (before mid after : List Entry) (input left new_left : Option (List ℕ)) (first second : Outside) (count : ℕ) (request : HttpRequest) (done : Unit {0}) → Follows first second
-    → SoFar answers origin before mid input left first count → Moves left new_left (Ok (Some request)) → TakesTurn answers origin mid after (message_of request) second (count + 1) {E = WriteFault} (Ok done)
+pub so_far_more : (answers : Answers) (origin : ℕ) (before mid after : List Entry) (input left new_left : Option (List ℕ)) (first second : Outside) (count : ℕ) (request : HttpRequest) → Follows first second
+    → SoFar answers origin before mid input left first count → Moves left new_left (Ok (Some request)) → is_last (message_of request) ≡ false → TakesTurn answers origin mid after (message_of request) second (count + 1) {E = WriteFault} (Ok false)
     → SoFar answers origin before after input new_left (both first second) (count + 1)
-so_far_more answers origin before mid after input left new_left first second count request done follows s moves t =
+so_far_more answers origin before mid after input left new_left first second count request follows s moves other t =
     record {
       turns = s.turns ++ t.turn ∷ [];
       exchange = exchange_more answers origin before s.turns mid t.turn after s.exchange t.taken t.grown;
       requests = given_turn input left new_left s.turns t.turn request s.requests moves t.request_is;
+      go_on = rw (map-append (λ (u : Turn). u.request) s.turns (t.turn ∷ [])) (go_on_more (requests_of s.turns) t.turn.request s.go_on (rw t.request_is other));
       responses = rw (text_is s.turns t.turn count s.counted) (appends_more first.old_output first.new_output second.new_output (texts_of s.turns) (text_of (count + 1) t.turn) s.responses (rw follows.output t.response));
       readings = gave_turn first.old_clock first.new_clock second.new_clock s.turns t.turn s.readings (rw follows.clock t.reading);
       counted = omega (arith, length-append s.turns (t.turn ∷ []), s.counted);
@@ -114,6 +121,7 @@ ends_by_write_fault answers origin before mid after input left new_left first se
         earlier = s.turns;
         last = t.turn;
         parts = refl;
+        go_on = s.go_on;
         requests = begins_with input new_left (requests_of (s.turns ++ t.turn ∷ [])) (given_turn input left new_left s.turns t.turn request s.requests moves t.request_is);
         written = rw number (into first.old_output first.new_output second.new_output (texts_of s.turns) (text_of (count + 1) t.turn) s.responses (rw follows.output t.response));
       });
@@ -127,32 +135,69 @@ few_requests turns count counted few = rw (length-map turns (λ (t : Turn). t.re
 pub ends_by_read_fault : (answers : Answers) (origin : ℕ) (before after : List Entry) (input left : Option (List ℕ)) (outside : Outside) (count : ℕ) → SoFar answers origin before after input left outside count
     → IsConversation answers origin before after input outside causes.ReadFault
 ends_by_read_fault answers origin before after input left outside count s =
-    record { turns = s.turns; exchange = s.exchange; ends = (begins_with input left (requests_of s.turns) s.requests, s.responses); readings = s.readings }
+    record { turns = s.turns; exchange = s.exchange; ends = (begins_with input left (requests_of s.turns) s.requests, s.go_on, s.responses); readings = s.readings }
 
 -- the last request was answered
 pub ends_by_limit : (answers : Answers) (origin : ℕ) (before after : List Entry) (input left : Option (List ℕ)) (outside : Outside) (count : ℕ) → SoFar answers origin before after input left outside count → count ≡ request_limit
     → IsConversation answers origin before after input outside causes.Limit
 ends_by_limit answers origin before after input left outside count s full =
-    record { turns = s.turns; exchange = s.exchange; ends = (ends_limit input left (requests_of s.turns) s.requests (length-map s.turns (λ (t : Turn). t.request) ∙ s.counted ∙ full), s.responses); readings = s.readings }
+    record { turns = s.turns; exchange = s.exchange; ends = (ends_limit input left (requests_of s.turns) s.requests s.go_on (length-map s.turns (λ (t : Turn). t.request) ∙ s.counted ∙ full), s.responses); readings = s.readings }
 
 module _ (answers : Answers) (origin : ℕ) (before after : List Entry) (input left new_left : Option (List ℕ)) (outside : Outside) (count : ℕ) where
   -- the input ends
   pub ends_by_end : SoFar answers origin before after input left outside count → count < request_limit → Moves left new_left (Ok None) → IsConversation answers origin before after input outside causes.Ended
   ends_by_end s few moves =
-      record { turns = s.turns; exchange = s.exchange; ends = (ends_ended input left new_left (requests_of s.turns) s.requests (few_requests s.turns count s.counted few) moves, s.responses); readings = s.readings }
+      record { turns = s.turns; exchange = s.exchange; ends = (ends_ended input left new_left (requests_of s.turns) s.requests s.go_on (few_requests s.turns count s.counted few) moves, s.responses); readings = s.readings }
+
+  -- the framer stops, below the limit
+  at_stop : (stop : Stop) (ending : endings.Ending) (s : SoFar answers origin before after input left outside count) → count < request_limit → Moves left new_left (Err stop) → ending_at stop ≡ Some ending → IsWhole input (requests_of s.turns) ending
+  at_stop stop ending s few moves is =
+      ends_at input left new_left (requests_of s.turns) stop ending s.requests s.go_on (few_requests s.turns count s.counted few) moves is
 
   -- the input ends inside a request
-  pub ends_by_cut : SoFar answers origin before after input left outside count → count < request_limit → Moves left new_left (Err stops.Cut) → IsConversation answers origin before after input outside causes.Cut
+  ends_by_cut : SoFar answers origin before after input left outside count → count < request_limit → Moves left new_left (Err stops.Cut) → IsConversation answers origin before after input outside causes.Cut
   ends_by_cut s few moves =
-      record { turns = s.turns; exchange = s.exchange; ends = (ends_cut input left new_left (requests_of s.turns) s.requests (few_requests s.turns count s.counted few) moves, s.responses); readings = s.readings }
+      record { turns = s.turns; exchange = s.exchange; ends = (at_stop stops.Cut endings.Cut s few moves refl, s.responses); readings = s.readings }
+
+module _ (answers : Answers) (origin : ℕ) (before after : List Entry) (input left new_left : Option (List ℕ)) (outside : Outside) (count : ℕ) (output : Option (List ℕ)) where
+  -- the outside, with what was told at the end
+  abbrev pub told_outside : Outside
+  told_outside =
+      record { old_output = outside.old_output; new_output = output; old_clock = outside.old_clock; new_clock = outside.new_clock }
 
   -- the input is rejected, and that was told, or the sink failed
-  pub ends_by_rejection : (output : Option (List ℕ)) (cause : Cause) → SoFar answers origin before after input left outside count → count < request_limit → Moves left new_left (Err stops.Bad)
-      → (cause ≡ causes.Rejected → Appends outside.new_output output rejection_text) → (cause ≡ causes.WriteFault → AppendsFront outside.new_output output rejection_text) → (cause ≡ causes.Rejected) ⊎ (cause ≡ causes.WriteFault)
-      → IsConversation answers origin before after input (record { old_output = outside.old_output; new_output = output; old_clock = outside.old_clock; new_clock = outside.new_clock }) cause
-  ends_by_rejection output cause s few moves told fault (inl is) =
-      let ended = ends_rejected input left new_left (requests_of s.turns) s.requests (few_requests s.turns count s.counted few) moves in
-      rw is record { turns = s.turns; exchange = s.exchange; ends = (ended, appends_more outside.old_output outside.new_output output (texts_of s.turns) rejection_text s.responses (told is)); readings = s.readings }
-  ends_by_rejection output cause s few moves told fault (inr is) =
-      let ended = ends_rejected input left new_left (requests_of s.turns) s.requests (few_requests s.turns count s.counted few) moves in
-      rw is record { turns = s.turns; exchange = s.exchange; ends = inr (record { requests = ended; written = into outside.old_output outside.new_output output (texts_of s.turns) rejection_text s.responses (fault is) }); readings = s.readings }
+  ends_by_rejection : (stop : Stop) (rejection : Rejection) (cause : Cause) → ending_at stop ≡ Some (endings.Rejected rejection) → SoFar answers origin before after input left outside count → count < request_limit → Moves left new_left (Err stop)
+      → TellsRejection rejection outside.new_output output cause → IsConversation answers origin before after input told_outside cause
+  ends_by_rejection stop rejection cause at s few moves (inl (is, told)) =
+      let ended = at_stop answers origin before after input left new_left outside count stop (endings.Rejected rejection) s few moves at in
+      rw is record { turns = s.turns; exchange = s.exchange; ends = record { rejection = rejection; requests = ended; written = appends_more outside.old_output outside.new_output output (texts_of s.turns) (rejection_text rejection) s.responses told }; readings = s.readings }
+  ends_by_rejection stop rejection cause at s few moves (inr (is, fault)) =
+      let ended = at_stop answers origin before after input left new_left outside count stop (endings.Rejected rejection) s few moves at in
+      rw is record { turns = s.turns; exchange = s.exchange; ends = inr (record { rejection = rejection; requests = ended; written = into outside.old_output outside.new_output output (texts_of s.turns) (rejection_text rejection) s.responses fault }); readings = s.readings }
+
+  -- the framer stops
+  pub ends_by_stop : (stop : Stop) (cause : Cause) → SoFar answers origin before after input left outside count → count < request_limit → Moves left new_left (Err stop) → EndsAtStop stop outside.new_output output cause
+      → IsConversation answers origin before after input told_outside cause
+  ends_by_stop stops.ReadFault cause s few moves (is, same) =
+      rw (is, same) (ends_by_read_fault answers origin before after input left outside count s)
+  ends_by_stop stops.Cut cause s few moves (is, same) =
+      rw (is, same) (ends_by_cut answers origin before after input left new_left outside count s few moves)
+  ends_by_stop stops.Bad cause s few moves told = ends_by_rejection stops.Bad Bad cause refl s few moves told
+  ends_by_stop stops.HeadTooBig cause s few moves told = ends_by_rejection stops.HeadTooBig HeadTooBig cause refl s few moves told
+  ends_by_stop stops.BodyTooBig cause s few moves told = ends_by_rejection stops.BodyTooBig BodyTooBig cause refl s few moves told
+  ends_by_stop stops.Unimplemented cause s few moves told = ends_by_rejection stops.Unimplemented Unimplemented cause refl s few moves told
+
+-- a request that is last was answered
+pub ends_by_close : (answers : Answers) (origin : ℕ) (before mid after : List Entry) (input left new_left : Option (List ℕ)) (first second : Outside) (count : ℕ) (request : HttpRequest) → Follows first second
+    → SoFar answers origin before mid input left first count → count < request_limit → Moves left new_left (Ok (Some request)) → is_last (message_of request) ≡ true → TakesTurn answers origin mid after (message_of request) second (count + 1) {E = WriteFault} (Ok true)
+    → IsConversation answers origin before after input (both first second) causes.Closed
+ends_by_close answers origin before mid after input left new_left first second count request follows s few moves last t =
+    let given = given_turn input left new_left s.turns t.turn request s.requests moves t.request_is in
+    let more = map-append (λ (u : Turn). u.request) s.turns (t.turn ∷ []) in
+    let whole = ends_closed input new_left (requests_of s.turns) t.turn.request (rw more at given) s.go_on (rw t.request_is last) (few_requests s.turns count s.counted few) in
+    record {
+      turns = s.turns ++ t.turn ∷ [];
+      exchange = exchange_more answers origin before s.turns mid t.turn after s.exchange t.taken t.grown;
+      ends = (rw more whole, rw (text_is s.turns t.turn count s.counted) (appends_more first.old_output first.new_output second.new_output (texts_of s.turns) (text_of (count + 1) t.turn) s.responses (rw follows.output t.response)));
+      readings = gave_turn first.old_clock first.new_clock second.new_clock s.turns t.turn s.readings (rw follows.clock t.reading);
+    }

@@ -1,16 +1,20 @@
 -- The conversation: an exchange over the bytes of a source and a sink.
-use Rattle.std.specs.Prelude.{◌≡◌, ◌⊎◌, ℕ, ◌+◌, ◌==◌, Option, Some, None, IfSome, List, [], ◌∷◌, ◌++◌, length, map, take, true, ⊤, Result, MatchResult}
+use Rattle.std.specs.Prelude.{◌≡◌, ◌⊎◌, ℕ, ◌+◌, ◌==◌, ◌||◌, Option, Some, None, IfSome, List, [], ◌∷◌, ◌++◌, length, map, take, Bool, true, ⊤, Result, MatchResult}
 use Rattle.std.specs.Io.KnownBytes.{Appends}
 use Rattle.al_base.specs.Readings.{Readings, next_reading, after_reading}
 use Rattle.al_report.specs.declared.entry.Entry.{Entry}
 use Rattle.al_http.specs.Fronts.{AppendsFront}
-use Rattle.al_http.specs.Requests.{RequestMessage}
+use Rattle.al_http.specs.Requests.{RequestMessage, is_last}
 use Rattle.al_http.specs.Responses.{response_text, rejection_response}
-use Rattle.al_http.specs.Streams.{Cuts, IsWhole, request_limit}
+use Rattle.al_http.specs.Streams.{Cuts, GoOn, IsWhole, request_limit}
 use Rattle.al_http.specs.Streams as endings
+use Rattle.al_http.specs.declared.framer.Stop.{Stop}
+use Rattle.al_http.specs.declared.framer.Stop.TheVariants as stops
+use Rattle.al_http.specs.declared.rejection.Rejection.{Rejection}
+use Rattle.al_http.specs.declared.rejection.Rejection.TheVariants.{Bad, HeadTooBig, BodyTooBig, Unimplemented}
 use Rattle.alarmd.specs.Exchanges.{Answers, Turn, IsTurn, IsExchange}
 use Rattle.alarmd.specs.declared.conversation.Cause.{Cause}
-use Rattle.alarmd.specs.declared.conversation.Cause.TheVariants.{Ended, Limit, Cut, Rejected, ReadFault, WriteFault}
+use Rattle.alarmd.specs.declared.conversation.Cause.TheVariants.{Ended, Closed, Limit, Cut, Rejected, ReadFault, WriteFault}
 
 -- The bytes of the output and the readings of the clock, before and after, where they are told.
 pub record Outside : Type 0 where
@@ -25,9 +29,9 @@ requests_of turns = map (λ turn. turn.request) turns
 abbrev pub readings_of : List Turn → List ℕ
 readings_of turns = map (λ turn. turn.reading) turns
 
--- the text of the response to the request of this number; the last request that is answered is told to be the last
+-- the text of the response to the request of this number; that of a request that is last, and of the greatest number, tells that it is the last
 abbrev pub text_of : ℕ → Turn → List ℕ
-text_of number turn = response_text turn.response (number == request_limit)
+text_of number turn = response_text turn.response (is_last turn.request || number == request_limit)
 
 -- the responses' texts, one after the other, the first being that of the request of this number
 abbrev pub texts_from : ℕ → List Turn → List ℕ
@@ -37,9 +41,9 @@ texts_from number (turn ∷ turns) = text_of number turn ++ texts_from (number +
 abbrev pub texts_of : List Turn → List ℕ
 texts_of turns = texts_from 1 turns
 
--- what tells that the input is rejected
-abbrev pub rejection_text : List ℕ
-rejection_text = response_text rejection_response true
+-- what tells why the input is rejected
+abbrev pub rejection_text : Rejection → List ℕ
+rejection_text rejection = response_text (rejection_response rejection) true
 
 -- the clock gave these readings, one after the other
 abbrev pub Gave : Readings → List ℕ → Readings → Type 0
@@ -56,6 +60,10 @@ GaveKnown (Some old) readings (Some new) = Gave old readings new
 abbrev pub BeginsWith : Option (List ℕ) → List RequestMessage → Type 0
 BeginsWith input requests = IfSome input (λ bytes. (rest : List ℕ) × Cuts bytes requests rest)
 
+-- none of the turns had a request that is last
+abbrev pub TurnsGoOn : List Turn → Type 0
+TurnsGoOn turns = GoOn (requests_of turns)
+
 -- the output, where it is told, grew by the first text, whole, and then by a front of the second
 abbrev pub AppendsInto : Option (List ℕ) → Option (List ℕ) → List ℕ → List ℕ → Type 0
 AppendsInto old new first second = (count : ℕ) × Appends old new (first ++ take count second)
@@ -65,21 +73,30 @@ pub record FailsInResponse (input old new : Option (List ℕ)) (turns : List Tur
   pub earlier : List Turn
   pub last : Turn
   pub parts : turns ≡ earlier ++ last ∷ []
+  pub go_on : TurnsGoOn earlier
   pub requests : BeginsWith input (requests_of turns)
   pub written : AppendsInto old new (texts_of earlier) (text_of (length turns) last)
 
--- The sink failed in telling that the input is rejected: all responses were written whole.
+-- The sink failed in telling why the input is rejected: all responses were written whole.
 pub record FailsInRejection (input old new : Option (List ℕ)) (turns : List Turn) : Type 0 where
-  pub requests : IsWhole input (requests_of turns) endings.Rejected
-  pub written : AppendsInto old new (texts_of turns) rejection_text
+  pub rejection : Rejection
+  pub requests : IsWhole input (requests_of turns) (endings.Rejected rejection)
+  pub written : AppendsInto old new (texts_of turns) (rejection_text rejection)
+
+-- The input was rejected, and why was told whole.
+pub record EndsInRejection (input old new : Option (List ℕ)) (turns : List Turn) : Type 0 where
+  pub rejection : Rejection
+  pub requests : IsWhole input (requests_of turns) (endings.Rejected rejection)
+  pub written : Appends old new (texts_of turns ++ rejection_text rejection)
 
 -- The requests of the input and what was written, by the cause of the end: up to a fault the requests are first ones of the input.
 abbrev pub EndsBy : Cause → Option (List ℕ) → Option (List ℕ) → Option (List ℕ) → List Turn → Type 0
 EndsBy Ended input old new turns = IsWhole input (requests_of turns) endings.Ended × Appends old new (texts_of turns)
+EndsBy Closed input old new turns = IsWhole input (requests_of turns) endings.Closed × Appends old new (texts_of turns)
 EndsBy Limit input old new turns = IsWhole input (requests_of turns) endings.Limit × Appends old new (texts_of turns)
 EndsBy Cut input old new turns = IsWhole input (requests_of turns) endings.Cut × Appends old new (texts_of turns)
-EndsBy Rejected input old new turns = IsWhole input (requests_of turns) endings.Rejected × Appends old new (texts_of turns ++ rejection_text)
-EndsBy ReadFault input old new turns = BeginsWith input (requests_of turns) × Appends old new (texts_of turns)
+EndsBy Rejected input old new turns = EndsInRejection input old new turns
+EndsBy ReadFault input old new turns = BeginsWith input (requests_of turns) × TurnsGoOn turns × Appends old new (texts_of turns)
 EndsBy WriteFault input old new turns = FailsInResponse input old new turns ⊎ FailsInRejection input old new turns
 
 -- A conversation of one origin over an input, from one history to another.
@@ -90,10 +107,24 @@ pub record IsConversation (answers : Answers) (origin : ℕ) (before after : Lis
   pub readings : GaveKnown outside.old_clock (readings_of turns) outside.new_clock
 
 -- One turn over a sink and a clock. A fault of the sink leaves a front of the response.
-pub record TakesTurn (answers : Answers) (origin : ℕ) (before after : List Entry) (request : RequestMessage) (outside : Outside) (number : ℕ) {E : Type 0} (result : Result Unit E) : Type 0 where
+pub record TakesTurn (answers : Answers) (origin : ℕ) (before after : List Entry) (request : RequestMessage) (outside : Outside) (number : ℕ) {E : Type 0} (result : Result Bool E) : Type 0 where
   pub turn : Turn
   pub taken : IsTurn answers origin before turn
   pub grown : after ≡ before ++ turn.entries
   pub request_is : turn.request ≡ request
   pub response : MatchResult result (λ _. Appends outside.old_output outside.new_output (text_of number turn)) (λ _. AppendsFront outside.old_output outside.new_output (text_of number turn))
   pub reading : GaveKnown outside.old_clock (turn.reading ∷ []) outside.new_clock
+
+-- The input is rejected, and that was told, or the sink failed in it.
+abbrev pub TellsRejection : Rejection → Option (List ℕ) → Option (List ℕ) → Cause → Type 0
+TellsRejection rejection old new cause =
+    ((cause ≡ Rejected) × Appends old new (rejection_text rejection)) ⊎ ((cause ≡ WriteFault) × AppendsFront old new (rejection_text rejection))
+
+-- how a conversation ends at a stop of its framer
+abbrev pub EndsAtStop : Stop → Option (List ℕ) → Option (List ℕ) → Cause → Type 0
+EndsAtStop stops.ReadFault old new cause = (cause ≡ ReadFault) × (new ≡ old)
+EndsAtStop stops.Cut old new cause = (cause ≡ Cut) × (new ≡ old)
+EndsAtStop stops.Bad old new cause = TellsRejection Bad old new cause
+EndsAtStop stops.HeadTooBig old new cause = TellsRejection HeadTooBig old new cause
+EndsAtStop stops.BodyTooBig old new cause = TellsRejection BodyTooBig old new cause
+EndsAtStop stops.Unimplemented old new cause = TellsRejection Unimplemented old new cause

@@ -8,7 +8,7 @@ use Rattle.al_http.specs.Fronts.{AppendsFront}
 use Rattle.alarmd.specs.Machine.{IsAnswer}
 use Rattle.alarmd.specs.Words.{usage_line}
 use Rattle.alarmd.specs.declared.conversation.Cause.{Cause}
-use Rattle.alarmd.specs.declared.conversation.Cause.TheVariants.{Ended, Limit, Cut, Rejected, ReadFault, WriteFault}
+use Rattle.alarmd.specs.declared.conversation.Cause.TheVariants.{Ended, Closed, Limit, Cut, Rejected, ReadFault, WriteFault}
 
 -- the exit statuses of the program
 abbrev pub status_done : ℕ
@@ -35,6 +35,7 @@ status_rejected = 10
 -- how a conversation ended
 abbrev pub status_of : Cause → ℕ
 status_of Ended = status_done
+status_of Closed = status_done
 status_of Limit = status_done
 status_of Cut = status_cut
 status_of Rejected = status_rejected

@@ -1,17 +1,16 @@
 //! A conversation: the requests of a source are answered one after the other into a sink, by any service.
 
-ghost use Rattle.std.specs.Prelude.{◌≡◌, ◌≤◌, ◌+◌, ◌⊎◌, true, OnErr};
-ghost use Rattle.std.specs.Io.KnownBytes.{Appends};
+ghost use Rattle.std.specs.Prelude.{◌≡◌, ◌≤◌, ◌+◌, IfOk, OnErr};
 ghost use Rattle.al_base.specs.Outside.{Rose};
-ghost use Rattle.al_http.specs.Fronts.{AppendsFront};
+ghost use Rattle.al_http.specs.Requests.{is_last};
 ghost use Rattle.al_http.specs.Responses.{HasText};
 ghost use Rattle.al_http.specs.Shown.{message_of};
-ghost use Rattle.alarmd.specs.Conversations.{IsConversation, TakesTurn, rejection_text};
+ghost use Rattle.alarmd.specs.Conversations.{IsConversation, TakesTurn, TellsRejection, EndsAtStop};
 ghost use Rattle.alarmd.specs.Exchanges.{GivesTurn};
 
 use crate::service::Service;
 use al_base::{Clock, Sink, Source, Stamp, WriteFault};
-use al_http::{Framer, HttpRequest, REQUEST_LIMIT, Response, Stop, respond};
+use al_http::{Framer, HttpRequest, REQUEST_LIMIT, Rejection, Response, Stop, respond};
 use al_report::Kept;
 
 /// Why a conversation ended.
@@ -19,11 +18,13 @@ use al_report::Kept;
 pub enum Cause {
     /// The input ended.
     Ended,
+    /// A request was answered that asked for no further answer.
+    Closed,
     /// The last request that a conversation may have was answered.
     Limit,
     /// The input ended inside a request.
     Cut,
-    /// The input was rejected, which was told.
+    /// The input was rejected, and why was told.
     Rejected,
     /// The source failed.
     ReadFault,
@@ -53,20 +54,19 @@ pub fn converse<T: Kept, V: Service<T>, S: Source, O: Sink, K: Clock>(
         match framer.next(source) {
             Ok(Some(request)) => {
                 match take_turn(kept, service, origin, &request, sink, clock, served + 1) {
-                    Ok(()) => {}
+                    Ok(true) => return Cause::Closed,
+                    Ok(false) => {}
                     Err(WriteFault) => return Cause::WriteFault,
                 }
             }
             Ok(None) => return Cause::Ended,
-            Err(Stop::Cut) => return Cause::Cut,
-            Err(Stop::ReadFault) => return Cause::ReadFault,
-            Err(Stop::Bad) => return reject(sink),
+            Err(stop) => return end_at(stop, sink),
         }
     }
     Cause::Limit
 }
 
-/// Reads the clock once, has the request answered, and writes the response.
+/// Reads the clock once, has the request answered, and writes the response; whether the request is last.
 fn take_turn<T: Kept, V: Service<T>, O: Sink, K: Clock>(
     kept: &mut T,
     service: &mut V,
@@ -75,16 +75,21 @@ fn take_turn<T: Kept, V: Service<T>, O: Sink, K: Clock>(
     sink: &mut O,
     clock: &mut K,
     number: u64,
-) -> Result<(), WriteFault>
+) -> Result<bool, WriteFault>
     ensures turn { TakesTurn (V.answers service.old) origin (T.list kept.old) (T.list kept.new) (message_of request.now)
         (record { old_output = O.held sink.old; new_output = O.held sink.new; old_clock = K.readings clock.old; new_clock = K.readings clock.new }) number result }
+    ensures last { IfOk result (λ last. last ≡ is_last (message_of request.now)) }
     ensures same { service.new ≡ service.old }
     ensures later { O.faults sink.old ≤ O.faults sink.new }
     ensures cause { OnErr result (Rose (O.faults sink.old) (O.faults sink.new)) }
 {
     let now = clock.now();
     let response = answer(kept, service, origin, request, now);
-    respond(sink, &response, number == REQUEST_LIMIT)
+    let last = request.last();
+    match respond(sink, &response, last || number == REQUEST_LIMIT) {
+        Ok(()) => Ok(last),
+        Err(WriteFault) => Err(WriteFault),
+    }
 }
 
 /// Has the request answered, for want of memory that there is none.
@@ -108,16 +113,31 @@ fn answer<T: Kept, V: Service<T>>(
     }
 }
 
-/// Tells that the input is rejected.
-fn reject<O: Sink>(sink: &mut O) -> Cause
-    ensures rejected { result ≡ Cause.Rejected → Appends (O.held sink.old) (O.held sink.new) rejection_text }
-    ensures fault { result ≡ Cause.WriteFault → AppendsFront (O.held sink.old) (O.held sink.new) rejection_text }
-    ensures one_of { (result ≡ Cause.Rejected) ⊎ (result ≡ Cause.WriteFault) }
+/// Ends at a stop of the framer: why an input is rejected is told.
+fn end_at<O: Sink>(stop: Stop, sink: &mut O) -> Cause
+    ensures ends { EndsAtStop stop (O.held sink.old) (O.held sink.new) result }
+    ensures read_fault { result ≡ Cause.ReadFault → stop ≡ Stop.ReadFault }
+    ensures write_fault { result ≡ Cause.WriteFault → Rose (O.faults sink.old) (O.faults sink.new) }
     ensures later { O.faults sink.old ≤ O.faults sink.new }
-    ensures cause { result ≡ Cause.WriteFault → Rose (O.faults sink.old) (O.faults sink.new) }
 {
-    match respond(sink, &Response::of_rejection(), true) {
+    match stop {
+        Stop::ReadFault => Cause::ReadFault,
+        Stop::Cut => Cause::Cut,
+        Stop::Bad => reject(sink, Rejection::Bad),
+        Stop::HeadTooBig => reject(sink, Rejection::HeadTooBig),
+        Stop::BodyTooBig => reject(sink, Rejection::BodyTooBig),
+        Stop::Unimplemented => reject(sink, Rejection::Unimplemented),
+    }
+}
+
+/// Tells why the input is rejected.
+fn reject<O: Sink>(sink: &mut O, rejection: Rejection) -> Cause
+    ensures told { TellsRejection rejection (O.held sink.old) (O.held sink.new) result }
+    ensures write_fault { result ≡ Cause.WriteFault → Rose (O.faults sink.old) (O.faults sink.new) }
+    ensures later { O.faults sink.old ≤ O.faults sink.new }
+{
+    match respond(sink, &Response::of_rejection(rejection), true) {
         Ok(()) => Cause::Rejected,
-        Err(_) => Cause::WriteFault,
+        Err(WriteFault) => Cause::WriteFault,
     }
 }

@@ -110,7 +110,7 @@ fn status(cause: Cause) -> u8
     ensures { result ≡ status_of cause }
 {
     match cause {
-        Cause::Ended | Cause::Limit => 0,
+        Cause::Ended | Cause::Closed | Cause::Limit => 0,
         Cause::Cut => CUT,
         Cause::Rejected => REJECTED,
         Cause::ReadFault => SOURCE_FAULT,

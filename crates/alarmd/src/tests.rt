@@ -1,5 +1,11 @@
+ghost use Rattle.std.specs.Prelude.{◌<◌};
+
+use crate::conversation::{Cause, converse};
+use crate::machine::Machine;
 use crate::program::run;
 use al_base::{MemClock, MemSink, MemSource, Stamp, Text, TextFault};
+use al_http::Framer;
+use al_office::Office;
 use std::alloc::{AllocError, Global};
 use std::test::Fail;
 
@@ -36,6 +42,23 @@ const NO_VALUE: &[u8] =
 
 const CLOCK_END: &[u8] =
     b"HTTP/1.1 409 Conflict\r\nAlarm-Place: 1\r\nContent-Length: 130\r\nContent-Type: application/yang-data+json\r\n\r\n{\"ietf-restconf:errors\":{\"error\":[{\"error-message\":\"clock at its end\",\"error-tag\":\"resource-denied\",\"error-type\":\"application\"}]}}";
+
+const LAST_COUNT: &[u8] =
+    b"GET /restconf/data/ietf-alarms:alarms/alarm-list/number-of-alarms HTTP/1.1\r\nConnection: close\r\n\r\n";
+
+const NONE_AT_0: &[u8] =
+    b"HTTP/1.1 200 OK\r\nAlarm-Place: 0\r\nContent-Length: 34\r\nContent-Type: application/yang-data+json\r\n\r\n{\"ietf-alarms:number-of-alarms\":0}";
+
+const LAST_AT_0: &[u8] =
+    b"HTTP/1.1 200 OK\r\nAlarm-Place: 0\r\nConnection: close\r\nContent-Length: 34\r\nContent-Type: application/yang-data+json\r\n\r\n{\"ietf-alarms:number-of-alarms\":0}";
+
+const LAST_TAKEN: &[u8] = b"HTTP/1.1 204 No Content\r\nAlarm-Place: 0\r\nConnection: close\r\n\r\n";
+
+const BODY_TOO_BIG: &[u8] =
+    b"HTTP/1.1 413 Payload Too Large\r\nConnection: close\r\nContent-Length: 116\r\nContent-Type: application/yang-data+json\r\n\r\n{\"ietf-restconf:errors\":{\"error\":[{\"error-message\":\"body too big\",\"error-tag\":\"too-big\",\"error-type\":\"transport\"}]}}";
+
+const TRANSFER_CODING: &[u8] =
+    b"HTTP/1.1 501 Not Implemented\r\nConnection: close\r\nContent-Length: 135\r\nContent-Type: application/yang-data+json\r\n\r\n{\"ietf-restconf:errors\":{\"error\":[{\"error-message\":\"transfer coding\",\"error-tag\":\"operation-not-supported\",\"error-type\":\"transport\"}]}}";
 
 const BAD_HEAD: &[u8] =
     b"HTTP/1.1 400 Bad Request\r\nConnection: close\r\nContent-Length: 122\r\nContent-Type: application/yang-data+json\r\n\r\n{\"ietf-restconf:errors\":{\"error\":[{\"error-message\":\"bad head\",\"error-tag\":\"malformed-message\",\"error-type\":\"transport\"}]}}";
@@ -121,7 +144,7 @@ fn sessions_end_as_they_do(rt: HostRuntime) -> Result<(), Fail> {
         write_fault: 2,
         ..WELL
     };
-    let rows: [(Pieces, Pieces, Plan, u8, Pieces); 17] = [
+    let rows: [(Pieces, Pieces, Plan, u8, Pieces); 21] = [
         (SESSION, &[REPORT, COUNT], WELL, 0, &[TAKEN, ONE_AT_1]),
         // the same again
         (
@@ -164,6 +187,37 @@ fn sessions_end_as_they_do(rt: HostRuntime) -> Result<(), Fail> {
             10,
             &[BAD_HEAD],
         ),
+        (
+            SESSION,
+            &[
+                REPORT,
+                b"PUT / HTTP/1.1\nContent-Length: 1048577\n\n",
+                COUNT,
+            ],
+            WELL,
+            10,
+            &[TAKEN, BODY_TOO_BIG],
+        ),
+        (
+            SESSION,
+            &[b"PUT / HTTP/1.1\nTransfer-Encoding: chunked\n\n"],
+            WELL,
+            10,
+            &[TRANSFER_CODING],
+        ),
+        // the last request, and what follows it
+        (SESSION, &[LAST_COUNT, REPORT], WELL, 0, &[LAST_AT_0]),
+        (
+            SESSION,
+            &[
+                b"POST /restconf/operations/alarmd:report HTTP/1.0\nContent-Length: 111\n\n",
+                b"{\"alarmd:input\":{\"alarm-text\":\"down\",\"alarm-type-id\":\"ex:link\",\"perceived-severity\":\"major\",\"resource\":\"eth1\"}}",
+                b"\0\n\n",
+            ],
+            WELL,
+            0,
+            &[LAST_TAKEN],
+        ),
         (SESSION, &[COUNT], no_read, 6, &[]),
         (SESSION, &[COUNT], no_write, 7, &[]),
         (SESSION, &[REPORT, REPORT], second_write, 7, &[TAKEN]),
@@ -182,22 +236,43 @@ fn sessions_end_as_they_do(rt: HostRuntime) -> Result<(), Fail> {
     Ok(())
 }
 
+/// Has a conversation over an empty history, whose first read gives so many bytes at most: its end and its output.
+fn converse_over_memory(
+    alloc: Global,
+    framer: &mut Framer,
+    input: &[u8],
+    first_piece: usize,
+) -> Result<(Cause, Vec<u8>), AllocError>
+    requires { 0 < first_piece }
+{
+    let mut office = Office::start(alloc)?;
+    let mut machine = Machine::new(alloc);
+    let mut source = MemSource::new(alloc, input, &[first_piece], &[])?;
+    let mut sink = MemSink::new(alloc, 4096, &[])?;
+    let mut clock = MemClock::new(alloc, &[Stamp::LAST])?;
+    let cause = converse(
+        &mut office,
+        &mut machine,
+        framer,
+        0,
+        &mut source,
+        &mut sink,
+        &mut clock,
+    );
+    Ok((cause, Vec::from_slice(alloc, sink.bytes())?))
+}
+
 #[test]
 fn answers_alike_wherever_the_input_is_cut(rt: HostRuntime) -> Result<(), Fail> {
     let alloc = rt.alloc();
-    let input = joined(
-        alloc,
-        &[b"GET /x HTTP/1.1\r\n\r\n", b"HEAD /y HTTP/1.1\r\n\r\n"],
-    )?;
-    let expected = joined(alloc, &[NO_PATH_HEAD, NO_PATH_BODY, NO_PATH_HEAD])?;
+    let input = joined(alloc, &[COUNT, COUNT, LAST_COUNT, b"xyz"])?;
+    let expected = joined(alloc, &[NONE_AT_0, NONE_AT_0, LAST_AT_0])?;
+    let mut framer = Framer::new(alloc)?;
     for first_piece in 1..input.len() {
-        let plan = Plan {
-            first_piece,
-            ..WELL
-        };
-        let cut = run_over_memory(alloc, SESSION, &input, plan)?;
+        let (cause, output) = converse_over_memory(alloc, &mut framer, &input, first_piece)?;
+        assert_eq!(rt; cause, Cause::Closed, "cut at {first_piece}");
         assert_eq!(rt;
-            cut.output.as_slice(),
+            output.as_slice(),
             expected.as_slice(),
             "cut at {first_piece}"
         );

@@ -1,7 +1,8 @@
 use Rattle.std.proofs.Common.{◌≡◌, ◌-◌, ◌<◌, ◌≤◌, length, take, drop, min, inl, lit<, arith}
 use Rattle.std.proofs.lemmas.List.{length-append, take-append-le, length-take, length-drop}
 use Rattle.std.proofs.Math.Seq.{take-length}
-use Rattle.al_http.specs.Requests.{IsRejected}
+use Rattle.al_http.specs.declared.rejection.Rejection.TheVariants.{HeadTooBig}
+use Rattle.al_http.specs.Ends.{IsRejected}
 use Rattle.al_http.specs.InputBuffers.{held_bytes}
 use Rattle.al_http.proofs.ScanLemmas.{after_none}
 use Rattle.al_http.proofs.StreamLemmas.{keeps_same, keeps_both, kept_has, stream_all, take_on, take_to, front_kept}
@@ -34,7 +35,7 @@ returns-then-done-eq-MAX_HEAD-clause-finds g c =
     let from : c.reading.done ≤ c.look_end-end.result = omega arith in
     let seen = rw (c.held.ensures, take_to held c.reading.done c.look_end-end.result from, c.if-done-eq-MAX_HEAD.true) at (c.in-Goes.ensures _ c.reading.invariant.seen) in
     let long : 16384 ≤ length held = omega arith in
-    kept_has IsRejected _ _ c.reading.invariant.stream (stream_all IsRejected held _ (λ more. inl (record {
+    kept_has (IsRejected HeadTooBig) _ _ c.reading.invariant.stream (stream_all (IsRejected HeadTooBig) held _ (λ more. inl (record {
       long = omega (arith, length-append held more);
       no_block = rw (take-append-le 16384 held more long) seen.no_block;
     })))

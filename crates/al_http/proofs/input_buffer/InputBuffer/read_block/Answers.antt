@@ -19,6 +19,6 @@ returns-clause-reads c =
     rw (with_items_is buffer.spans c.read_head.new.spans (c.read_head.auto.spans ∙ c.deref_mut.ensures.len))
     (rw (block_at _ _ buffer.start _ c.args.len c.deref.ensures.value c.requires.within) at c.read_head.ensures.reads)
 
-pub returns-clause-refuses : goal.returns-clause-refuses
-returns-clause-refuses c =
-    rw (block_at _ _ c.args.self.now.start _ c.args.len c.deref.ensures.value c.requires.within) at c.read_head.ensures.refuses
+pub returns-clause-rejects : goal.returns-clause-rejects
+returns-clause-rejects c =
+    rw (block_at _ _ c.args.self.now.start _ c.args.len c.deref.ensures.value c.requires.within) at c.read_head.ensures.rejects
