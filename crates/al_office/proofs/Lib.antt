@@ -1,4 +1,2 @@
 mod Keeping
-mod Positions
-mod Preparing
-mod Verdicts
+mod Notes

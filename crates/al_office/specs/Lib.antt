@@ -1,3 +1,3 @@
+pub mod Decisions
+pub mod Laws
 pub mod Office
-pub mod Tables
-pub mod View

@@ -1,10 +1,7 @@
-//! The office: the history and the alarms that it leaves, changed as one.
+//! The office: the history and the tables that it leaves, changed as one.
 #![tactic(auto)]
 
-mod alarm;
-mod office;
-mod tables;
-#[cfg(test)]
-mod tests;
+pub mod laws;
+pub mod office;
 
 pub use office::Office;

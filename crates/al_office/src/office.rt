@@ -1,21 +1,29 @@
-use crate::tables::Tables;
+ghost use Rattle.al_base.specs.Limits.{last_stamp};
+ghost use Rattle.std.specs.Prelude.{◌≡◌, ◌+◌, ◌<◌, ◌≤◌, max};
+ghost use Rattle.al_office.specs.Decisions.{carried_by};
+
 use al_base::Stamp;
-use al_report::{Decision, Entry, Kept, Refusal, Reply, Request};
+use al_lists::Tables;
+use al_model::{Decision, Entry, Event, Kept, Refusal, Reply, Request};
 use std::alloc::{AllocError, Global};
 use std::marker::Model;
+use std::mem;
 
-/// The history and the alarms that it leaves.
+/// The history and what is known after it, in memory.
 #[derive(Debug, Drop)]
 pub struct Office {
-    alloc: Global,
     entries: Vec<Entry>,
     tables: Tables,
 }
 
 impl Model for Office {
+    ghost use Rattle.al_model.specs.contracts.entry.Entry as an_entry;
     ghost use Rattle.al_office.specs.Office.{OfficeView, IsKept};
+    ghost use Rattle.std.specs.Coded.{codes};
 
     ghost Value = { OfficeView };
+
+    ghost coded = { Prim.hlevel (codes, an_entry.the_row.coded) };
 
     ghost view = { λ o. record { entries = o.entries.items } };
 
@@ -23,57 +31,69 @@ impl Model for Office {
 }
 
 impl Office {
-    ghost use Rattle.std.specs.Prelude.{◌≡◌, ◌↔◌, [], ◌∷◌, ◌++◌, length, slice_get, option_copied, is_ok, IfOk, IsTrue, if◌then◌else◌};
-    ghost use Rattle.al_report.specs.History.{replay, Fits, IsLegal};
-    ghost use Rattle.al_report.specs.Limits.{IsRequestWithin};
-    ghost use Rattle.al_office.specs.Office.{IsChangeAnswer};
-    ghost use Rattle.al_office.specs.Tables.{IsPositionFor};
+    ghost use Rattle.std.specs.Prelude.{◌≡◌, ◌↔◌, ◌+◌, ◌<◌, ◌^◌, [], ◌∷◌, ◌++◌, length, slice_get, option_copied, is_ok, IfOk, IsTrue, if◌then◌else◌};
+    ghost use Rattle.al_model.specs.History.{replay, Fits, IsLegal};
+    ghost use Rattle.al_model.specs.Limits.{IsRequestWithin};
+    ghost use Rattle.al_office.specs.Office.{CanNote, IsChangeAnswer};
 
     /// An office whose history is empty.
     pub fn start(alloc: Global) -> Result<Office, AllocError>
         ensures { IfOk result (λ office. office.entries ≡ []) }
     {
         Ok(Office {
-            alloc,
             entries: Vec::new(alloc),
-            tables: Tables::new(alloc),
+            tables: Tables::new(alloc)?,
         })
     }
 
     /// Decides on the request and carries it out, by an entry of this origin where it changes anything.
+    ///
+    /// Memory is taken for a change alone, and all of it before anything changes. Notes are numbered in 32 bits: `can_change` tells
+    /// whether a number is left.
     pub fn change(&mut self, origin: u16, request: Request, now: Stamp) -> Result<Reply, Refusal>
-        requires { IsRequestWithin request }
+        requires within { IsRequestWithin request }
+        requires note { CanNote self.old.entries }
         ensures answer { IsChangeAnswer self.old.entries origin request now result self.new.entries }
         ensures legal { IsLegal self.new.entries }
     {
-        let (decision, position) = self.tables.decide(request, now);
-        match decision {
-            Decision::Refuse(refusal) => Err(refusal),
-            Decision::Same(reply) => Ok(reply),
-            Decision::Change(event, reply) => {
-                let time = self.tables.next_time(now);
-                let entry = Entry {
+        match to_carry_out(self.tables.decide(&request, now)?) {
+            Ok((event, reply)) => {
+                let time = time_after(self.tables.time(), now);
+                self.add(Entry {
                     time,
                     origin,
                     event,
-                };
-                self.add(entry, position)?;
+                })?;
                 Ok(reply)
             }
+            Err(answer) => answer,
         }
     }
 
     /// Adds an entry: first all memory is taken, then the entry and its change are there.
-    fn add(&mut self, entry: Entry, position: Result<usize, usize>) -> Result<(), AllocError>
+    fn add(&mut self, entry: Entry) -> Result<(), AllocError>
         requires fits { Fits (replay self.old.entries) entry }
-        requires position { IsPositionFor (replay self.old.entries).alarms entry.event position }
+        requires note { CanNote self.old.entries }
         ensures { self.new.entries ≡ (if is_ok result then self.old.entries ++ entry ∷ [] else self.old.entries) }
     {
-        let prepared = self.tables.prepare(self.alloc, &entry.event, position)?;
-        let time = entry.time;
+        let prepared = self.tables.prepare(&entry)?;
         self.entries.push(entry)?;
-        self.tables.apply(prepared, time);
+        self.tables.apply(prepared);
         Ok(())
+    }
+
+    /// Whether a number is left for another note, which a change needs.
+    pub fn can_change(&self) -> bool
+        ensures { IsTrue result ↔ CanNote self.now.entries }
+    {
+        self.tables.log().sent() < u32::MAX
+    }
+
+    /// What is known after the history.
+    pub fn look(&self) -> &Tables
+        ensures { result.now.state ≡ replay self.now.entries }
+    {
+        &self.tables
     }
 
     /// The history is legal, whatever was done to it.
@@ -102,19 +122,38 @@ impl Office {
     {
         self.entries.get(n)
     }
-
-    /// How many alarms there are, cleared ones too.
-    pub fn number_of_alarms(&self) -> usize
-        ensures { result ≡ length (replay self.now.entries).alarms }
-    {
-        self.tables.number_of_alarms()
-    }
 }
 
 impl Kept for Office {
-    ghost list = { λ office. office.entries };
+    ghost use Rattle.al_office.specs.Office.{mark_of};
+
+    ghost mark = { mark_of };
 
     fn entries(&self) -> u64 {
         self.len() as u64
+    }
+}
+
+/// The event that a decision is to be carried out by, and its reply; or what is answered at once.
+fn to_carry_out(mut decision: Decision) -> Result<(Event, Reply), Result<Reply, Refusal>>
+    ensures { result ≡ carried_by decision }
+{
+    match &mut decision {
+        Decision::Refuse(refusal) => Err(Err(*refusal)),
+        Decision::Same(reply) => Err(Ok(*reply)),
+        // The decision is let go with another event in it, so that this one isn't copied.
+        Decision::Change(event, reply) => Ok((mem::replace(event, Event::SetMax(None)), *reply)),
+    }
+}
+
+/// The time of the entry after one of this time: that of the clock, but later than the entry before.
+fn time_after(last: Stamp, now: Stamp) -> Stamp
+    requires { last < last_stamp }
+    ensures time { result ≡ max now (last + 1) }
+    ensures bound { result ≤ last_stamp }
+{
+    match Stamp::of(now.ms().max(last.ms() + 1)) {
+        Some(time) => time,
+        None => unreachable!(),
     }
 }

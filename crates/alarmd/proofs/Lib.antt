@@ -1,4 +1,5 @@
 mod Answering
 mod Cutting
 mod Reporting
+mod Starting
 mod Turning

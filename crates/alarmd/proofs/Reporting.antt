@@ -1,5 +1,5 @@
 -- What a report is made of.
-use Rattle.std.proofs.Common.{◌≡◌, ◌≢◌, ◌↔◌, ℕ, ◌≤◌, ◌<◌, ◌⊎◌, inl, inr, Bool, true, false, not, ◌==◌, IsTrue, List, get_or, length, codes, refl, sym, ◌∙◌, arith}
+use Rattle.std.proofs.Common.{◌≡◌, ◌≢◌, ◌↔◌, ℕ, ◌≤◌, ◌<◌, ◌⊎◌, inl, inr, Bool, true, false, not, ◌==◌, IsTrue, List, get_or, length, codes, refl, sym, ap, ◌∙◌, arith}
 use Rattle.std.specs.List.{list_all}
 use Rattle.std.specs.Prelude.{slice_index}
 use Rattle.std.proofs.lemmas.Bool.{cases_lt, false≢true}
@@ -11,9 +11,10 @@ use Rattle.al_base.specs.Names.{status_name}
 use Rattle.al_base.specs.declared.severity.Severity.TheVariants.{Indeterminate, Warning, Minor, Major, Critical}
 use Rattle.al_base.specs.declared.severity.Status.{Status}
 use Rattle.al_base.specs.declared.severity.Status.TheVariants.{Cleared, Active}
-use Rattle.al_report.specs.declared.request.Request.{Request}
-use Rattle.al_report.specs.declared.request.Request.TheVariants.{Report}
-use Rattle.alarmd.specs.Reports.{IsPlain, IsPlainResource, IsPlainText, IsReport, IsMadeOf, HasNoQuote, Spells, status_text, resource_text}
+use Rattle.al_model.specs.declared.request.Request.{Request}
+use Rattle.al_model.specs.declared.request.Request.TheVariants.{Report}
+use Rattle.alarmd.specs.Reports.{IsPlain, IsPlainResource, IsPlainText, IsReport, IsMadeOf, HasNoQuote, Spells, report_text, status_text, resource_text}
+use Rattle.alarmd.specs.Links.{link_key}
 use Rattle.alarmd.proofs.Cutting.{one_cut}
 
 -- plain bytes hold no quote
@@ -47,27 +48,41 @@ one_triple body t s r text status resource a b =
     let third = one_cut (resource_text r) (codes "\",\"resource\":\"") r (codes "\"}}") resource (codes "\"}}") (refl, a.whole_resource, refl) b.whole_resource refl second.1 in
     (first.0, second.0, third.0)
 
+-- those of a report are its own
+triple_of : (body t s r : List ℕ) → IsMadeOf body t s r → (request : Request) → (report : IsReport body request) → (t ≡ report.text) × (s ≡ status_name report.status) × (r ≡ report.resource)
+triple_of body t s r made request report =
+    one_triple body t s r report.text (status_name report.status) report.resource made (made_of body report.resource report.status report.text report.spelled)
+
 -- no report without its parts
 pub no_parts : (body : List ℕ) → ((text status resource : List ℕ) → ¬ (IsMadeOf body text status resource)) → (request : Request) → ¬ (IsReport body request)
-no_parts body none (Report resource status text) report = none text (status_name status) resource (made_of body resource status text report)
+no_parts body none request report =
+    none report.text (status_name report.status) report.resource (made_of body report.resource report.status report.text report.spelled)
 
 pub no_status : (body t s r : List ℕ) → IsMadeOf body t s r → ((status : Status) → s ≢ status_name status) → (request : Request) → ¬ (IsReport body request)
-no_status body t s r made none (Report resource status text) report =
-    none status ((one_triple body t s r text (status_name status) resource made (made_of body resource status text report)).1)
+no_status body t s r made none request report = none report.status (triple_of body t s r made request report).1
 
 pub no_resource : (body t s r : List ℕ) → IsMadeOf body t s r → ¬ (IsPlainResource r) → (request : Request) → ¬ (IsReport body request)
-no_resource body t s r made none (Report resource status text) report =
-    none (rw ((one_triple body t s r text (status_name status) resource made (made_of body resource status text report)).2) report.plain_resource)
+no_resource body t s r made none request report = none (rw (triple_of body t s r made request report).2 report.spelled.plain_resource)
 
 pub no_text : (body t s r : List ℕ) → IsMadeOf body t s r → ¬ (IsPlainText t) → (request : Request) → ¬ (IsReport body request)
-no_text body t s r made none (Report resource status text) report =
-    none (rw ((one_triple body t s r text (status_name status) resource made (made_of body resource status text report)).0) report.plain_text)
+no_text body t s r made none request report = none (rw (triple_of body t s r made request report).0 report.spelled.plain_text)
 
 -- a body is one report at most
-pub one_report : (body t s r : List ℕ) → IsMadeOf body t s r → (status : Status) → ((other : Status) → s ≡ status_name other → other ≡ status) → (other : Request) → IsReport body other → other ≡ Report r status t
-one_report body t s r made status named (Report resource other text) report =
-    let same = one_triple body t s r text (status_name other) resource made (made_of body resource other text report) in
-    rw (sym same.0, sym same.2, named other same.1) refl
+pub one_report : (body t s r : List ℕ) → IsMadeOf body t s r → (status : Status) → ((other : Status) → s ≡ status_name other → other ≡ status) → (other : Request) → IsReport body other → other ≡ Report (link_key r) status t
+one_report body t s r made status named other report =
+    let same = triple_of body t s r made other report in
+    report.asks ∙ rw (same.0, same.2, named report.status same.1) refl
+
+-- what a body with these values asks
+pub reports : (body t s r : List ℕ) → IsMadeOf body t s r → (status : Status) → s ≡ status_name status → IsPlainResource r → IsPlainText t → (request : Request) → request ≡ Report (link_key r) status t → IsReport body request
+reports body t s r made status named plain_resource plain_text request asks =
+    record {
+      resource = r;
+      status = status;
+      text = t;
+      spelled = record { spelled = made.spelled ∙ ap (λ n. report_text t n r) named; plain_resource = plain_resource; plain_text = plain_text };
+      asks = asks;
+    }
 
 -- what a test that failed says
 pub fails : (P : Type 0) (b : Bool) → (IsTrue b ↔ P) → b ≡ false → ¬ P

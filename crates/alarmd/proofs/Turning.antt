@@ -20,7 +20,7 @@ use Rattle.alarmd.specs.declared.conversation.Cause.TheVariants as causes
 use Rattle.al_http.specs.Requests.{RequestMessage, is_last}
 use Rattle.al_http.specs.Streams.{GoOn, HasGiven, IsWhole, request_limit}
 use Rattle.al_http.specs.Streams as endings
-use Rattle.al_report.specs.declared.entry.Entry.{Entry}
+use Rattle.al_model.specs.declared.entry.Entry.{Entry}
 use Rattle.alarmd.specs.Exchanges.{Answers, Turn, IsTurn, IsExchange}
 use Rattle.alarmd.specs.Conversations.{Outside, requests_of, readings_of, text_of, texts_from, texts_of, rejection_text, Gave, GaveKnown, BeginsWith, TurnsGoOn, AppendsInto, IsConversation, TakesTurn, TellsRejection, EndsAtStop}
 

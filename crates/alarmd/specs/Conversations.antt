@@ -2,7 +2,7 @@
 use Rattle.std.specs.Prelude.{◌≡◌, ◌⊎◌, ℕ, ◌+◌, ◌==◌, ◌||◌, Option, Some, None, IfSome, List, [], ◌∷◌, ◌++◌, length, map, take, Bool, true, ⊤, Result, MatchResult}
 use Rattle.std.specs.Io.KnownBytes.{Appends}
 use Rattle.al_base.specs.Readings.{Readings, next_reading, after_reading}
-use Rattle.al_report.specs.declared.entry.Entry.{Entry}
+use Rattle.al_model.specs.declared.entry.Entry.{Entry}
 use Rattle.al_http.specs.Fronts.{AppendsFront}
 use Rattle.al_http.specs.Requests.{RequestMessage, is_last}
 use Rattle.al_http.specs.Responses.{response_text, rejection_response}

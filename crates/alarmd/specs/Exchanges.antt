@@ -1,7 +1,7 @@
 -- The exchange: requests and their answers, one after the other, over one growing history, for any service.
 use Rattle.std.specs.Prelude.{◌≡◌, ℕ, ◌≤◌, Some, List, [], ◌∷◌, ◌++◌, length, All}
-use Rattle.al_report.specs.Limits.{last_stamp}
-use Rattle.al_report.specs.declared.entry.Entry.{Entry}
+use Rattle.al_base.specs.Limits.{last_stamp}
+use Rattle.al_model.specs.declared.entry.Entry.{Entry}
 use Rattle.al_http.specs.Requests.{RequestMessage}
 use Rattle.al_http.specs.Responses.{out_of_memory_response}
 use Rattle.al_http.specs.declared.response.Response.{Response}

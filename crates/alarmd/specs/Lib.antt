@@ -1,5 +1,6 @@
 pub mod Conversations
 pub mod Exchanges
+pub mod Links
 pub mod Machine
 pub mod Reports
 pub mod Sessions

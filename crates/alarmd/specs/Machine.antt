@@ -1,12 +1,13 @@
 -- What the server answers: the machine of its resources, over a history.
 use Rattle.std.specs.Prelude.{◌≡◌, ℕ, ◌≤◌, Some, None, true, false, List, [], ◌∷◌, ◌++◌, length, All, codes, decimal}
-use Rattle.al_report.specs.Decision.{decision_of, entry_of}
-use Rattle.al_report.specs.History.{replay}
-use Rattle.al_report.specs.Refusals.{refusal_number}
-use Rattle.al_report.specs.declared.decision.Decision.{Decision}
-use Rattle.al_report.specs.declared.decision.Decision.TheVariants.{Refuse, Same, Change}
-use Rattle.al_report.specs.declared.entry.Entry.{Entry}
-use Rattle.al_report.specs.declared.request.Request.{Request}
+use Rattle.al_model.specs.Decision.{decision_of, entry_of}
+use Rattle.al_model.specs.History.{replay}
+use Rattle.al_model.specs.Refusals.{refusal_number}
+use Rattle.al_model.specs.State.{listed}
+use Rattle.al_model.specs.declared.decision.Decision.{Decision}
+use Rattle.al_model.specs.declared.decision.Decision.TheVariants.{Refuse, Same, Change}
+use Rattle.al_model.specs.declared.entry.Entry.{Entry}
+use Rattle.al_model.specs.declared.request.Request.{Request}
 use Rattle.al_http.specs.ErrorRows.{no_such_path, bad_value}
 use Rattle.al_http.specs.Requests.{RequestMessage, path_of, query_of}
 use Rattle.al_http.specs.Responses.{refusal, bodiless}
@@ -67,8 +68,8 @@ pub record AnswersReport (before after : List Entry) (origin : ℕ) (body : List
 
 -- The machine's answer to a request of an origin at a reading of the clock, over a history: the response and the entries that are added.
 pub record IsAnswer (before : List Entry) (origin : ℕ) (request : RequestMessage) (reading : ℕ) (response : Response) (entries : List Entry) : Type 0 where
-  -- the count is that of the alarms that stand after the history
-  pub count : AsksCount request → (response ≡ count_response (length before) (length (replay before).alarms)) × (entries ≡ [])
+  -- the count is that of the alarms of the list after the history
+  pub count : AsksCount request → (response ≡ count_response (length before) (length (listed (replay before)))) × (entries ≡ [])
   -- a report is decided upon
   pub report : (report : Request) → BringsReport request → IsReport request.body report → Carries (decision_of (replay before) report reading) before origin reading response entries
   -- a body that is no report is refused

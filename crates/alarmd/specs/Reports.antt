@@ -2,8 +2,9 @@
 use Rattle.std.specs.Prelude.{◌≡◌, ℕ, ◌≤◌, List, ◌++◌, Some, slice_get, All, length, codes, ◌≢◌}
 use Rattle.al_base.specs.Names.{status_name}
 use Rattle.al_base.specs.declared.severity.Status.{Status}
-use Rattle.al_report.specs.declared.request.Request.{Request}
-use Rattle.al_report.specs.declared.request.Request.TheVariants.{Report}
+use Rattle.al_model.specs.declared.request.Request.{Request}
+use Rattle.al_model.specs.declared.request.Request.TheVariants.{Report}
+use Rattle.alarmd.specs.Links.{link_key}
 
 -- a byte that stands for itself in a JSON text: printable ASCII but for the quote and the backslash
 pub record IsPlain (byte : ℕ) : Type 0 where
@@ -37,8 +38,13 @@ pub record Spells (body resource : List ℕ) (status : Status) (text : List ℕ)
   pub plain_resource : IsPlainResource resource
   pub plain_text : IsPlainText text
 
-abbrev pub IsReport : List ℕ → Request → Type 0
-IsReport body (Report resource status text) = Spells body resource status text
+-- The body is the text of this request: a report of the one type, without qualifier.
+pub record IsReport (body : List ℕ) (request : Request) : Type 0 where
+  pub resource : List ℕ
+  pub status : Status
+  pub text : List ℕ
+  pub spelled : Spells body resource status text
+  pub asks : request ≡ Report (link_key resource) status text
 
 -- a value that ends at the next quote, and what begins with that quote
 abbrev pub HasNoQuote : List ℕ → Type 0

@@ -1,10 +1,11 @@
--- A session: one conversation over a history that begins empty, and the status that tells how it ended.
-use Rattle.std.specs.Prelude.{◌≡◌, ◌⊎◌, ℕ, Option, List, []}
+-- A session: one conversation over a history that begins with an inventory, and the status that tells how it ended.
+use Rattle.std.specs.Prelude.{◌≡◌, ◌⊎◌, ℕ, Option, List}
 use Rattle.std.specs.Io.KnownBytes.{Appends}
-use Rattle.al_report.specs.declared.entry.Entry.{Entry}
-use Rattle.al_report.specs.History.{IsLegal}
+use Rattle.al_model.specs.declared.entry.Entry.{Entry}
+use Rattle.al_model.specs.History.{IsLegal}
 use Rattle.alarmd.specs.Conversations.{Outside, IsConversation}
 use Rattle.al_http.specs.Fronts.{AppendsFront}
+use Rattle.alarmd.specs.Links.{link_history}
 use Rattle.alarmd.specs.Machine.{IsAnswer}
 use Rattle.alarmd.specs.Words.{usage_line}
 use Rattle.alarmd.specs.declared.conversation.Cause.{Cause}
@@ -46,13 +47,14 @@ status_of WriteFault = status_write_fault
 abbrev pub session_origin : ℕ
 session_origin = 0
 
--- The input was answered by the machine over a history that began empty and is legal, and the status tells how it ended.
+-- The input was answered by the machine over a history that began with the inventory of the one type and is legal, and the status
+-- tells how it ended.
 pub record HasConversed (input : Option (List ℕ)) (outside : Outside) (status : ℕ) : Type 0 where
   pub cause : Cause
   pub status_is : status ≡ status_of cause
   pub history : List Entry
   pub legal : IsLegal history
-  pub conversation : IsConversation IsAnswer session_origin [] history input outside cause
+  pub conversation : IsConversation IsAnswer session_origin link_history history input outside cause
 
 -- There was no memory to begin: nothing was read or written.
 pub record HasNotBegun {S O K : Type 0} (old_source new_source : S) (old_sink new_sink : O) (old_clock new_clock : K) (status : ℕ) : Type 0 where

@@ -1,10 +1,12 @@
 //! The machine of the server's resources: which request gets which answer.
 
-ghost use Rattle.std.specs.Prelude.{◌≡◌, ◌↔◌, None, Some, IsTrue, IfOk, OnErr, List, [], ◌∷◌, ◌++◌, length, codes, decimal};
+ghost use Rattle.std.specs.Prelude.{◌≡◌, ◌≢◌, ◌↔◌, None, Some, IsTrue, IfOk, OnErr, List, [], ◌∷◌, ◌++◌, length, codes, decimal};
 ghost use Rattle.al_http.specs.Requests.{path_of, query_of};
-ghost use Rattle.al_http.specs.Responses.{HasText};
+ghost use Rattle.al_http.specs.Responses.{HasText, refusal};
 ghost use Rattle.al_http.specs.Shown.{message_of};
-ghost use Rattle.al_report.specs.History.{replay};
+ghost use Rattle.al_model.specs.History.{replay};
+ghost use Rattle.al_model.specs.Refusals.{refusal_number};
+ghost use Rattle.al_model.specs.State.{listed};
 ghost use Rattle.alarmd.specs.Exchanges.{Answered};
 ghost use Rattle.alarmd.specs.Machine.{AsksCount, BringsReport, AnswersReport, IsAnswer, RefusesPath, count_response, count_text};
 
@@ -12,8 +14,8 @@ use crate::report::{ReportFault, read_report};
 use crate::service::Service;
 use al_base::{List, Stamp};
 use al_http::{BAD_VALUE, Content, HttpRequest, NO_SUCH_PATH, Response};
+use al_model::{Kept, Refusal};
 use al_office::Office;
-use al_report::{Kept, Refusal};
 use itoa::Buffer as Digits;
 use std::alloc::{AllocError, Global};
 
@@ -93,9 +95,9 @@ fn brings_report(request: &HttpRequest) -> bool
 
 /// The number of alarms.
 fn count(alloc: Global, office: &Office) -> Result<Response, AllocError>
-    ensures { IfOk result (λ response. response ≡ count_response (length office.now.entries) (length (replay office.now.entries).alarms)) }
+    ensures { IfOk result (λ response. response ≡ count_response (length office.now.entries) (length (listed (replay office.now.entries)))) }
 {
-    let number = office.number_of_alarms();
+    let number = office.look().alarms();
     let mut digits = Digits::new();
     let mut text = Vec::with_capacity(alloc, COUNT_ROOM)?;
     text.extend_from_slice(b"{\"ietf-alarms:number-of-alarms\":")?;
@@ -111,7 +113,7 @@ fn count(alloc: Global, office: &Office) -> Result<Response, AllocError>
     })
 }
 
-/// Has a report decided upon and carried out.
+/// Has a report decided upon and carried out. Where no number is left for another note, that is told as want of memory.
 fn take_report(
     alloc: Global,
     office: &mut Office,
@@ -130,9 +132,23 @@ fn take_report(
         Err(ReportFault::Form) => return Ok(Response::of_row(BAD_VALUE, place)),
         Err(ReportFault::Memory) => return Err(AllocError),
     };
+    if !office.can_change() {
+        return Err(AllocError);
+    }
     match office.change(origin, report, now) {
         Ok(_) => Ok(Response::bodiless(204, place)),
-        Err(Refusal::ClockEnd) => Ok(Response::of_row(Refusal::ClockEnd.number(), place)),
-        Err(Refusal::Memory) => Err(AllocError),
+        Err(reason) => refuse(reason, place),
     }
+}
+
+/// Tells why a report isn't carried out, but for want of memory.
+fn refuse(reason: Refusal, place: Option<u64>) -> Result<Response, AllocError>
+    ensures told { IfOk result (λ response. (reason ≢ Refusal.Memory) × (response ≡ refusal (refusal_number reason) place)) }
+    ensures place { IfOk result (λ response. response.place ≡ place) }
+    ensures text { IfOk result HasText }
+{
+    if reason == Refusal::Memory {
+        return Err(AllocError);
+    }
+    Ok(Response::of_row(reason.number(), place))
 }

@@ -3,6 +3,7 @@
 
 mod command;
 mod conversation;
+mod links;
 mod machine;
 mod program;
 mod report;

@@ -1,13 +1,14 @@
 //! The reader of reports.
 
 ghost use Rattle.std.specs.Prelude.{◌≡◌, ◌≢◌, ◌↔◌, ◌≤◌, ◌∷◌, ◌++◌, ℕ, List, All, IfOk, IfNone, IfSome, IsTrue, length};
-ghost use Rattle.al_report.specs.Limits.{IsRequestWithin};
-ghost use Rattle.al_report.specs.declared.request.Request.{Request};
+ghost use Rattle.al_model.specs.Limits.{IsRequestWithin};
+ghost use Rattle.al_model.specs.declared.request.Request.{Request};
 ghost use Rattle.alarmd.specs.Reports.{IsReport, IsPlain, HasNoQuote, BeginsWithQuote, IsMadeOf, IsPlainResource, IsPlainText, resource_text, status_text};
 
-use al_base::{Status, Text, TextFault};
-use al_report::Request;
-use std::alloc::Global;
+use crate::links::{link_key, text};
+use al_base::Status;
+use al_model::Request;
+use std::alloc::{AllocError, Global};
 
 /// Why a body is no report.
 #[derive(Clone, Copy, Debug, PartialEq, Eq)]
@@ -16,6 +17,17 @@ pub enum ReportFault {
     Form,
     /// There was no memory for the report.
     Memory,
+}
+
+impl From<AllocError> for ReportFault {
+    ghost use Rattle.std.specs.Prelude.{◌≡◌};
+    ghost use Rattle.alarmd.specs.declared.report.ReportFault.TheVariants.{Memory};
+
+    ghost from_gives = { λ _ fault. fault ≡ Memory };
+
+    fn from(_error: AllocError) -> ReportFault {
+        ReportFault::Memory
+    }
 }
 
 const BEFORE_TEXT: &[u8] = b"{\"alarmd:input\":{\"alarm-text\":\"";
@@ -146,19 +158,6 @@ fn is_alarm_text(bytes: &[u8]) -> bool
     bytes.len() <= TEXT_LIMIT && are_plain(bytes)
 }
 
-/// A text of plain bytes, which are always text.
-fn plain_text(alloc: Global, bytes: &[u8]) -> Result<Text, ReportFault>
-    requires { All IsPlain bytes.now }
-    ensures text { IfOk result (λ text. text ≡ bytes.now) }
-    ensures memory { result ≢ Err ReportFault.Form }
-{
-    match Text::read(alloc, bytes) {
-        Ok(text) => Ok(text),
-        Err(TextFault::NotUtf8) => Err(ReportFault::Form),
-        Err(TextFault::Memory) => Err(ReportFault::Memory),
-    }
-}
-
 /// The report that a body is: its one text, with the members in this order and nothing beside them.
 pub fn read_report(alloc: Global, body: &[u8]) -> Result<Request, ReportFault>
     ensures report { IfOk result (IsReport body.now) }
@@ -178,9 +177,7 @@ pub fn read_report(alloc: Global, body: &[u8]) -> Result<Request, ReportFault>
     if !is_alarm_text(parts.text) {
         return Err(ReportFault::Form);
     }
-    Ok(Request::Report {
-        resource: plain_text(alloc, parts.resource)?,
-        status,
-        text: plain_text(alloc, parts.text)?,
-    })
+    let key = link_key(alloc, parts.resource)?;
+    let text = text(alloc, parts.text)?;
+    Ok(Request::Report { key, status, text })
 }

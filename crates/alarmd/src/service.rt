@@ -1,6 +1,6 @@
 use al_base::Stamp;
 use al_http::{HttpRequest, Response};
-use al_report::Kept;
+use al_model::Kept;
 use std::alloc::AllocError;
 
 /// What answers requests over a history.
@@ -22,8 +22,8 @@ pub trait Service<T: Kept>: Drop {
         now: Stamp,
     ) -> Result<Response, AllocError>
         ensures same { self.new ≡ self.old }
-        ensures answered { IfOk result (Answered (answers self.old) (T.list kept.old) (T.list kept.new) origin (message_of request.now) now) }
-        ensures place { IfOk result (λ response. response.place ≡ Some (length (T.list kept.old))) }
+        ensures answered { IfOk result (Answered (answers self.old) (T.mark kept.old).entries (T.mark kept.new).entries origin (message_of request.now) now) }
+        ensures place { IfOk result (λ response. response.place ≡ Some (length (T.mark kept.old).entries)) }
         ensures text { IfOk result HasText }
-        ensures unanswered { OnErr result (T.list kept.new ≡ T.list kept.old) };
+        ensures unanswered { OnErr result ((T.mark kept.new).entries ≡ (T.mark kept.old).entries) };
 }

@@ -1,11 +1,11 @@
 ghost use Rattle.std.specs.Prelude.{◌<◌};
 
 use crate::conversation::{Cause, converse};
+use crate::links;
 use crate::machine::Machine;
 use crate::program::run;
 use al_base::{MemClock, MemSink, MemSource, Stamp, Text, TextFault};
 use al_http::Framer;
-use al_office::Office;
 use std::alloc::{AllocError, Global};
 use std::test::Fail;
 
@@ -24,35 +24,35 @@ const OTHER_REPORT: &[u8] =
 const NO_REPORT: &[u8] =
     b"POST /restconf/operations/alarmd:report HTTP/1.1\r\nContent-Length: 2\r\n\r\n{}";
 
-const TAKEN: &[u8] = b"HTTP/1.1 204 No Content\r\nAlarm-Place: 0\r\n\r\n";
+const TAKEN: &[u8] = b"HTTP/1.1 204 No Content\r\nAlarm-Place: 1\r\n\r\n";
 
-const TAKEN_AT_1: &[u8] = b"HTTP/1.1 204 No Content\r\nAlarm-Place: 1\r\n\r\n";
+const TAKEN_AT_2: &[u8] = b"HTTP/1.1 204 No Content\r\nAlarm-Place: 2\r\n\r\n";
 
-const ONE_AT_1: &[u8] =
-    b"HTTP/1.1 200 OK\r\nAlarm-Place: 1\r\nContent-Length: 34\r\nContent-Type: application/yang-data+json\r\n\r\n{\"ietf-alarms:number-of-alarms\":1}";
+const ONE_AT_2: &[u8] =
+    b"HTTP/1.1 200 OK\r\nAlarm-Place: 2\r\nContent-Length: 34\r\nContent-Type: application/yang-data+json\r\n\r\n{\"ietf-alarms:number-of-alarms\":1}";
 
 const NO_PATH_HEAD: &[u8] =
-    b"HTTP/1.1 404 Not Found\r\nAlarm-Place: 0\r\nContent-Length: 121\r\nContent-Type: application/yang-data+json\r\n\r\n";
+    b"HTTP/1.1 404 Not Found\r\nAlarm-Place: 1\r\nContent-Length: 121\r\nContent-Type: application/yang-data+json\r\n\r\n";
 
 const NO_PATH_BODY: &[u8] =
     b"{\"ietf-restconf:errors\":{\"error\":[{\"error-message\":\"no such path\",\"error-tag\":\"invalid-value\",\"error-type\":\"protocol\"}]}}";
 
 const NO_VALUE: &[u8] =
-    b"HTTP/1.1 400 Bad Request\r\nAlarm-Place: 0\r\nContent-Length: 118\r\nContent-Type: application/yang-data+json\r\n\r\n{\"ietf-restconf:errors\":{\"error\":[{\"error-message\":\"bad value\",\"error-tag\":\"invalid-value\",\"error-type\":\"protocol\"}]}}";
+    b"HTTP/1.1 400 Bad Request\r\nAlarm-Place: 1\r\nContent-Length: 118\r\nContent-Type: application/yang-data+json\r\n\r\n{\"ietf-restconf:errors\":{\"error\":[{\"error-message\":\"bad value\",\"error-tag\":\"invalid-value\",\"error-type\":\"protocol\"}]}}";
 
 const CLOCK_END: &[u8] =
-    b"HTTP/1.1 409 Conflict\r\nAlarm-Place: 1\r\nContent-Length: 130\r\nContent-Type: application/yang-data+json\r\n\r\n{\"ietf-restconf:errors\":{\"error\":[{\"error-message\":\"clock at its end\",\"error-tag\":\"resource-denied\",\"error-type\":\"application\"}]}}";
+    b"HTTP/1.1 409 Conflict\r\nAlarm-Place: 2\r\nContent-Length: 130\r\nContent-Type: application/yang-data+json\r\n\r\n{\"ietf-restconf:errors\":{\"error\":[{\"error-message\":\"clock at its end\",\"error-tag\":\"resource-denied\",\"error-type\":\"application\"}]}}";
 
 const LAST_COUNT: &[u8] =
     b"GET /restconf/data/ietf-alarms:alarms/alarm-list/number-of-alarms HTTP/1.1\r\nConnection: close\r\n\r\n";
 
-const NONE_AT_0: &[u8] =
-    b"HTTP/1.1 200 OK\r\nAlarm-Place: 0\r\nContent-Length: 34\r\nContent-Type: application/yang-data+json\r\n\r\n{\"ietf-alarms:number-of-alarms\":0}";
+const NONE_AT_1: &[u8] =
+    b"HTTP/1.1 200 OK\r\nAlarm-Place: 1\r\nContent-Length: 34\r\nContent-Type: application/yang-data+json\r\n\r\n{\"ietf-alarms:number-of-alarms\":0}";
 
-const LAST_AT_0: &[u8] =
-    b"HTTP/1.1 200 OK\r\nAlarm-Place: 0\r\nConnection: close\r\nContent-Length: 34\r\nContent-Type: application/yang-data+json\r\n\r\n{\"ietf-alarms:number-of-alarms\":0}";
+const LAST_AT_1: &[u8] =
+    b"HTTP/1.1 200 OK\r\nAlarm-Place: 1\r\nConnection: close\r\nContent-Length: 34\r\nContent-Type: application/yang-data+json\r\n\r\n{\"ietf-alarms:number-of-alarms\":0}";
 
-const LAST_TAKEN: &[u8] = b"HTTP/1.1 204 No Content\r\nAlarm-Place: 0\r\nConnection: close\r\n\r\n";
+const LAST_TAKEN: &[u8] = b"HTTP/1.1 204 No Content\r\nAlarm-Place: 1\r\nConnection: close\r\n\r\n";
 
 const BODY_TOO_BIG: &[u8] =
     b"HTTP/1.1 413 Payload Too Large\r\nConnection: close\r\nContent-Length: 116\r\nContent-Type: application/yang-data+json\r\n\r\n{\"ietf-restconf:errors\":{\"error\":[{\"error-message\":\"body too big\",\"error-tag\":\"too-big\",\"error-type\":\"transport\"}]}}";
@@ -145,14 +145,14 @@ fn sessions_end_as_they_do(rt: HostRuntime) -> Result<(), Fail> {
         ..WELL
     };
     let rows: [(Pieces, Pieces, Plan, u8, Pieces); 21] = [
-        (SESSION, &[REPORT, COUNT], WELL, 0, &[TAKEN, ONE_AT_1]),
+        (SESSION, &[REPORT, COUNT], WELL, 0, &[TAKEN, ONE_AT_2]),
         // the same again
         (
             SESSION,
             &[REPORT, REPORT, COUNT],
             WELL,
             0,
-            &[TAKEN, TAKEN_AT_1, ONE_AT_1],
+            &[TAKEN, TAKEN_AT_2, ONE_AT_2],
         ),
         // past the last stamp
         (
@@ -160,7 +160,7 @@ fn sessions_end_as_they_do(rt: HostRuntime) -> Result<(), Fail> {
             &[REPORT, OTHER_REPORT, REPORT],
             WELL,
             0,
-            &[TAKEN, CLOCK_END, TAKEN_AT_1],
+            &[TAKEN, CLOCK_END, TAKEN_AT_2],
         ),
         (
             SESSION,
@@ -206,7 +206,7 @@ fn sessions_end_as_they_do(rt: HostRuntime) -> Result<(), Fail> {
             &[TRANSFER_CODING],
         ),
         // the last request, and what follows it
-        (SESSION, &[LAST_COUNT, REPORT], WELL, 0, &[LAST_AT_0]),
+        (SESSION, &[LAST_COUNT, REPORT], WELL, 0, &[LAST_AT_1]),
         (
             SESSION,
             &[
@@ -236,7 +236,7 @@ fn sessions_end_as_they_do(rt: HostRuntime) -> Result<(), Fail> {
     Ok(())
 }
 
-/// Has a conversation over an empty history, whose first read gives so many bytes at most: its end and its output.
+/// Has a conversation over the first history, whose first read gives so many bytes at most: its end and its output.
 fn converse_over_memory(
     alloc: Global,
     framer: &mut Framer,
@@ -245,7 +245,7 @@ fn converse_over_memory(
 ) -> Result<(Cause, Vec<u8>), AllocError>
     requires { 0 < first_piece }
 {
-    let mut office = Office::start(alloc)?;
+    let mut office = links::start(alloc)?;
     let mut machine = Machine::new(alloc);
     let mut source = MemSource::new(alloc, input, &[first_piece], &[])?;
     let mut sink = MemSink::new(alloc, 4096, &[])?;
@@ -266,7 +266,7 @@ fn converse_over_memory(
 fn answers_alike_wherever_the_input_is_cut(rt: HostRuntime) -> Result<(), Fail> {
     let alloc = rt.alloc();
     let input = joined(alloc, &[COUNT, COUNT, LAST_COUNT, b"xyz"])?;
-    let expected = joined(alloc, &[NONE_AT_0, NONE_AT_0, LAST_AT_0])?;
+    let expected = joined(alloc, &[NONE_AT_1, NONE_AT_1, LAST_AT_1])?;
     let mut framer = Framer::new(alloc)?;
     for first_piece in 1..input.len() {
         let (cause, output) = converse_over_memory(alloc, &mut framer, &input, first_piece)?;

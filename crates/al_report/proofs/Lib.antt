@@ -1,5 +1,0 @@
-pub mod Finding
-pub mod Placing
-pub mod Reporting
-pub mod Deciding
-pub mod Histories
