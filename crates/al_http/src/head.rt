@@ -52,6 +52,20 @@ pub(crate) fn value_at<'a>(
     None
 }
 
+/// How many fields have that name.
+pub(crate) fn value_count(block: &[u8], headers: &[HeaderSpan], name: &[u8]) -> usize
+    requires { All (IsHeaderWithin (length block.now)) headers.now }
+    ensures { result ≡ length (values_of name.now (map (header_bytes block.now) headers.now)) }
+{
+    let mut count = 0;
+    for header in headers {
+        if has_name(block, header, name) {
+            count += 1;
+        }
+    }
+    count
+}
+
 /// The number that 1 to 10 decimal digits write.
 fn read_number(value: &[u8]) -> Option<usize>
     ensures { result ≡ digits_number value.now }

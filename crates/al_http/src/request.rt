@@ -3,7 +3,7 @@ ghost use Rattle.std.specs.Option.{option_copied};
 ghost use Rattle.httparse.specs.Spans.{IsWithin, IsHeaderWithin, span_bytes};
 ghost use Rattle.al_http.specs.Requests.{is_question_mark, path_of, query_of, values_of, is_last};
 
-use crate::head::{has_member_in, value_at};
+use crate::head::{has_member_in, value_at, value_count};
 use crate::scan::first_at;
 use httparse::spans::{HeaderSpan, RequestSpans};
 
@@ -86,6 +86,13 @@ impl<'a> HttpRequest<'a> {
         ensures { option_copied result ≡ slice_get (values_of name.now (message_of self.now).fields) n }
     {
         value_at(self.block, self.headers, name, n)
+    }
+
+    /// How many fields have that name, in any ASCII case.
+    pub fn count(&self, name: &[u8]) -> usize
+        ensures { result ≡ length (values_of name.now (message_of self.now).fields) }
+    {
+        value_count(self.block, self.headers, name)
     }
 
     /// Whether nothing is answered behind it: it is of HTTP/1.0, or a `Connection` field of it names `close` (RFC 9112, section 9.3).
