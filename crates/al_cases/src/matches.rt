@@ -1,9 +1,8 @@
 //! Resource matches.
 
-use al_base::Copied;
 use al_ids::{MatchFault, Resource, ResourceMatch};
 use al_pattern::PatternFault;
-use std::test::Fail;
+use std::alloc::Global;
 
 /// A resource with two predicates.
 const LINK: &str = "/ex:net/link[from='a'][to='b']";
@@ -86,24 +85,29 @@ const FAULTS: [(&[u8], MatchFault); 29] = [
     (b"\xff", MatchFault::Pattern(PatternFault::Unsupported(0))),
 ];
 
-#[test]
-fn takes_resources_of_its_kind(rt: HostRuntime) -> Result<(), Fail> {
-    let alloc = rt.alloc();
-    for (text, name, taken) in TAKES {
-        let read = ResourceMatch::read(alloc, text.as_bytes())?.copy(alloc)?;
-        let resource = Resource::read(alloc, name.as_bytes())?;
-        assert_eq!(rt; read.source(), text.as_bytes());
-        assert_eq!(rt; read.matches(&resource), taken, "{text} on {name}");
+/// Whether the text is a match that takes the resource or doesn't, as wanted.
+fn takes(alloc: Global, text: &str, name: &str, taken: bool) -> bool {
+    match ResourceMatch::read(alloc, text.as_bytes()) {
+        Ok(read) => match Resource::read(alloc, name.as_bytes()) {
+            Ok(resource) => read.matches(&resource) == taken,
+            Err(_) => false,
+        },
+        Err(_) => false,
     }
-    Ok(())
+}
+
+#[test]
+fn takes_resources_of_its_kind(rt: HostRuntime) {
+    let alloc = rt.alloc();
+    let wrong = |(text, name, taken): &(&str, &str, bool)| !takes(alloc, text, name, *taken);
+    assert_eq!(rt; TAKES.iter().position(wrong), None);
 }
 
 #[test]
 fn tells_the_first_fault(rt: HostRuntime) {
-    for (text, fault) in &FAULTS {
-        match ResourceMatch::read(rt.alloc(), text) {
-            Ok(_) => panic!(rt; "a match of {} bytes", text.len()),
-            Err(found) => assert_eq!(rt; found, *fault),
-        }
-    }
+    let alloc = rt.alloc();
+    let wrong = |(text, fault): &(&[u8], MatchFault)| {
+        ResourceMatch::read(alloc, text).err() != Some(*fault)
+    };
+    assert_eq!(rt; FAULTS.iter().position(wrong), None);
 }

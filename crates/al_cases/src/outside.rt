@@ -4,54 +4,35 @@ use al_base::{
     Clock, MemClock, MemSink, MemSource, ReadFault, Reading, Sink, Source, Stamp, SystemClock,
     WriteFault, Writing,
 };
-use std::alloc::{AllocError, Global};
 use std::cell::Cell;
 use std::io::{Read, Write};
 use std::test::Fail;
 use std::time::Duration;
 use std::{io, rt};
 
-/// The answers of so many reads, and the bytes that they gave.
-fn read_times<S: Source>(
-    alloc: Global,
-    source: &mut S,
-    times: usize,
-) -> Result<(Vec<Result<usize, ReadFault>>, Vec<u8>), AllocError> {
-    let mut answers = Vec::new(alloc);
-    let mut bytes = Vec::new(alloc);
-    for _ in 0..times {
+/// Whether one read after the other answers so, and gives these bytes in all.
+fn reads<S: Source>(source: &mut S, answers: &[Result<usize, ReadFault>], bytes: &[u8]) -> bool {
+    let mut rest = bytes;
+    for answer in answers {
         let mut buf = [0; 4];
-        let answer = source.read(&mut buf);
-        for byte in buf.iter().take(answer.unwrap_or(0)) {
-            bytes.push(*byte)?;
+        let given = source.read(&mut buf);
+        let count = given.unwrap_or(0);
+        if given != *answer || rest.get(..count) != buf.get(..count) {
+            return false;
         }
-        answers.push(answer)?;
+        rest = rest.get(count..).unwrap_or(&[]);
     }
-    Ok((answers, bytes))
+    rest.is_empty()
 }
 
-fn write_times<O: Sink>(
-    alloc: Global,
-    sink: &mut O,
-    times: usize,
-) -> Result<Vec<Result<usize, WriteFault>>, AllocError> {
-    let mut answers = Vec::new(alloc);
-    for _ in 0..times {
-        answers.push(sink.write(b"abc"))?;
-    }
-    Ok(answers)
+/// Whether one write of `abc` after the other answers so.
+fn writes<O: Sink>(sink: &mut O, answers: &[Result<usize, WriteFault>]) -> bool {
+    answers.iter().all(|answer| sink.write(b"abc") == *answer)
 }
 
-fn now_times<K: Clock>(
-    alloc: Global,
-    clock: &mut K,
-    times: usize,
-) -> Result<Vec<Stamp>, AllocError> {
-    let mut readings = Vec::new(alloc);
-    for _ in 0..times {
-        readings.push(clock.now())?;
-    }
-    Ok(readings)
+/// Whether the clock tells these milliseconds, one after the other.
+fn tells<K: Clock>(clock: &mut K, readings: &[u64]) -> bool {
+    readings.iter().all(|ms| clock.now().ms() == *ms)
 }
 
 /// A reader that gives a byte, fails, gives two bytes, and then ends.
@@ -120,45 +101,30 @@ impl rt::Clock for Readings<'_> {
 #[test]
 fn sources_give_their_bytes(rt: HostRuntime) -> Result<(), Fail> {
     let mut source = MemSource::new(rt.alloc(), b"abcdef", &[1, 3], &[3])?;
-    let (answers, bytes) = read_times(rt.alloc(), &mut source, 5)?;
-    let expected = [Ok(1), Ok(3), Err(ReadFault), Ok(2), Ok(0)];
-    assert_eq!(rt; answers.as_slice(), expected.as_slice());
-    assert_eq!(rt; bytes.as_slice(), b"abcdef".as_slice());
-
+    let answers = [Ok(1), Ok(3), Err(ReadFault), Ok(2), Ok(0)];
+    assert!(rt; reads(&mut source, answers.as_slice(), b"abcdef"));
     let mut reading = Reading::new(Faulty { reads: 0 });
-    let (answers, bytes) = read_times(rt.alloc(), &mut reading, 4)?;
-    let expected = [Ok(1), Err(ReadFault), Ok(2), Ok(0)];
-    assert_eq!(rt; answers.as_slice(), expected.as_slice());
-    assert_eq!(rt; bytes.as_slice(), b"abc".as_slice());
+    let answers = [Ok(1), Err(ReadFault), Ok(2), Ok(0)];
+    assert!(rt; reads(&mut reading, answers.as_slice(), b"abc"));
     Ok(())
 }
 
 #[test]
 fn sinks_take_what_they_can(rt: HostRuntime) -> Result<(), Fail> {
     let mut sink = MemSink::new(rt.alloc(), 5, &[2])?;
-    let answers = write_times(rt.alloc(), &mut sink, 4)?;
-    let expected = [Ok(3), Err(WriteFault), Ok(2), Err(WriteFault)];
-    assert_eq!(rt; answers.as_slice(), expected.as_slice());
+    let answers = [Ok(3), Err(WriteFault), Ok(2), Err(WriteFault)];
+    assert!(rt; writes(&mut sink, answers.as_slice()));
     assert_eq!(rt; sink.bytes(), b"abcab".as_slice());
-
     let mut writing = Writing::new(Reluctant { writes: 0 });
-    let answers = write_times(rt.alloc(), &mut writing, 4)?;
-    let expected = [Ok(1), Err(WriteFault), Err(WriteFault), Ok(3)];
-    assert_eq!(rt; answers.as_slice(), expected.as_slice());
+    let answers = [Ok(1), Err(WriteFault), Err(WriteFault), Ok(3)];
+    assert!(rt; writes(&mut writing, answers.as_slice()));
     Ok(())
 }
 
 #[test]
 fn clocks_tell_milliseconds(rt: HostRuntime) -> Result<(), Fail> {
     let mut clock = MemClock::new(rt.alloc(), &[Stamp::LAST, Stamp::EPOCH])?;
-    let readings = now_times(rt.alloc(), &mut clock, 3)?;
-    assert_eq!(rt;
-        readings.as_slice(),
-        [Stamp::LAST, Stamp::EPOCH, Stamp::EPOCH].as_slice()
-    );
-    let mut empty = MemClock::new(rt.alloc(), &[])?;
-    assert_eq!(rt; empty.now(), Stamp::EPOCH);
-
+    assert!(rt; tells(&mut clock, &[253_402_300_799_999, 0, 0]));
     // from seconds and billionths of them; where there is no reading the last one is repeated
     let times = [
         Duration::new(1_714_557_600, 123_999_999),
@@ -170,11 +136,7 @@ fn clocks_tell_milliseconds(rt: HostRuntime) -> Result<(), Fail> {
         times: times.as_slice(),
         next: Cell::new(0),
     };
-    let readings = now_times(rt.alloc(), &mut SystemClock::new(system), 5)?;
-    let expected = [1_714_557_600_123, 1, 253_402_300_799_999, 2000, 2000];
-    assert_eq!(rt; readings.len(), expected.len());
-    for (reading, ms) in readings.iter().zip(&expected) {
-        assert_eq!(rt; reading.ms(), *ms);
-    }
+    let told = [1_714_557_600_123, 1, 253_402_300_799_999, 2000, 2000];
+    assert!(rt; tells(&mut SystemClock::new(system), told.as_slice()));
     Ok(())
 }

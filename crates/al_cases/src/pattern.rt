@@ -1,9 +1,7 @@
 //! Patterns.
 
 use al_pattern::{Pattern, PatternFault};
-use std::alloc::Global;
-use std::process::Abort;
-use std::test::Fail;
+use std::alloc::{AllocError, Global};
 
 /// Patterns, texts, and whether the whole text is taken.
 const TEXTS: [(&str, &str, bool); 44] = [
@@ -137,7 +135,7 @@ const LIMITS: [([(&str, usize); 3], Option<PatternFault>); 10] = [
     ),
 ];
 
-fn text_of(alloc: Global, parts: &[(&str, usize)]) -> Result<Vec<u8>, Fail> {
+fn text_of(alloc: Global, parts: &[(&str, usize)]) -> Result<Vec<u8>, AllocError> {
     let mut text = Vec::new(alloc);
     for (part, times) in parts {
         for _ in 0..*times {
@@ -147,52 +145,45 @@ fn text_of(alloc: Global, parts: &[(&str, usize)]) -> Result<Vec<u8>, Fail> {
     Ok(text)
 }
 
+/// Whether the text is a pattern that takes the other one or doesn't, as wanted.
+fn takes(alloc: Global, pattern: &str, text: &[u8], want: bool) -> bool {
+    match Pattern::read(alloc, pattern.as_bytes()) {
+        Ok(pattern) => pattern.matches(text) == want,
+        Err(_) => false,
+    }
+}
+
 fn fault_of(alloc: Global, text: &[u8]) -> Option<PatternFault> {
     Pattern::read(alloc, text).err()
 }
 
-fn takes(rt: &impl Abort, alloc: Global, pattern: &str, text: &str) -> bool {
-    match Pattern::read(alloc, pattern.as_bytes()) {
-        Ok(p) => p.matches(text.as_bytes()),
-        Err(_) => panic!(rt; "{pattern} is a pattern"),
-    }
+#[test]
+fn takes_whole_texts(rt: HostRuntime) {
+    let alloc = rt.alloc();
+    let wrong = |(pattern, text, want): &(&str, &str, bool)| !takes(
+        alloc,
+        pattern,
+        text.as_bytes(),
+        *want,
+    );
+    assert_eq!(rt; TEXTS.iter().position(wrong), None);
+    // no pattern is slow
+    assert!(rt; takes(alloc, "(a*)*b", &[b'a'; 255], false));
+}
+
+/// Whether three parts of a text, each so often, make a text of this fault.
+fn is_limit(alloc: Global, parts: &[(&str, usize)], fault: Option<PatternFault>) -> bool {
+    text_of(alloc, parts).is_ok_and(|text| fault_of(alloc, &text) == fault)
 }
 
 #[test]
-fn takes_whole_texts(rt: HostRuntime) -> Result<(), Fail> {
+fn faults_at_their_places(rt: HostRuntime) {
     let alloc = rt.alloc();
-    for (pattern, text, want) in &TEXTS {
-        assert_eq!(rt;
-            takes(&rt, alloc, pattern, text),
-            *want,
-            "{pattern} on {text}"
-        );
-    }
-    // No pattern is slow.
-    let text = text_of(alloc, &[("a", 255), ("b", 1)])?;
-    let stars = Pattern::read(alloc, b"(a*)*").ok().ok_or("a pattern")?;
-    let copy = stars.copy(alloc)?;
-    assert!(rt; copy == stars);
-    assert_eq!(rt; copy.source(), b"(a*)*".as_slice());
-    if let Ok(text) = std::str::from_utf8(&text) {
-        assert!(rt; !copy.matches(text.as_bytes()));
-    }
-    Ok(())
-}
-
-#[test]
-fn faults_at_their_places(rt: HostRuntime) -> Result<(), Fail> {
-    let alloc = rt.alloc();
-    for (text, fault) in &FAULTS {
-        assert_eq!(rt;
-            fault_of(alloc, text.as_bytes()).as_ref(),
-            Some(fault),
-            "{text}"
-        );
-    }
-    for (parts, fault) in &LIMITS {
-        let text = text_of(alloc, parts)?;
-        assert_eq!(rt; fault_of(alloc, &text), *fault, "{text:?}");
-    }
-    Ok(())
+    let wrong = |(text, fault): &(&str, PatternFault)| fault_of(alloc, text.as_bytes())
+        != Some(*fault);
+    assert_eq!(rt; FAULTS.iter().position(wrong), None);
+    let wrong = |(parts, fault): &([(&str, usize); 3], Option<PatternFault>)| !is_limit(
+        alloc, parts, *fault,
+    );
+    assert_eq!(rt; LIMITS.iter().position(wrong), None);
 }

@@ -2,85 +2,93 @@
 
 use al_base::{Copied, Text, TypeId};
 use al_ids::{AlarmKey, Kind, Resource, ResourceFault};
-use std::test::Fail;
+use std::alloc::Global;
+
+/// Resources, and their kinds.
+const KINDS: [(&str, Kind); 22] = [
+    ("eth1", Kind::Plain),
+    ("1.3.6", Kind::Oid),
+    ("1.40", Kind::Plain),
+    ("/ex:a/b", Kind::Path),
+    ("/a", Kind::Plain),
+    ("/ex:a/b[c='d']/e[f=\"it's\"][ex:g='h']", Kind::Path),
+    ("/ex:a[.='x']", Kind::Path),
+    ("/ex:a[b='']", Kind::Path),
+    ("/a/ex:b", Kind::Plain),
+    ("/ex:a/", Kind::Plain),
+    ("/ex:a [b='c']", Kind::Plain),
+    ("/ex:a[b='c\"]", Kind::Plain),
+    ("/ex:a[.:b='c']", Kind::Plain),
+    ("/ex:1a", Kind::Plain),
+    ("//ex:a", Kind::Plain),
+    ("1.03", Kind::Plain),
+    ("01.3", Kind::Plain),
+    ("3.1", Kind::Plain),
+    ("2.999", Kind::Oid),
+    ("0.39.0", Kind::Oid),
+    ("1", Kind::Plain),
+    ("1.3.", Kind::Plain),
+];
 
 #[test]
-fn tells_kinds_apart(rt: HostRuntime) -> Result<(), Fail> {
+fn tells_kinds_apart(rt: HostRuntime) {
     let alloc = rt.alloc();
-    let cases: [(&str, Kind); 22] = [
-        ("eth1", Kind::Plain),
-        ("1.3.6", Kind::Oid),
-        ("1.40", Kind::Plain),
-        ("/ex:a/b", Kind::Path),
-        ("/a", Kind::Plain),
-        ("/ex:a/b[c='d']/e[f=\"it's\"][ex:g='h']", Kind::Path),
-        ("/ex:a[.='x']", Kind::Path),
-        ("/ex:a[b='']", Kind::Path),
-        ("/a/ex:b", Kind::Plain),
-        ("/ex:a/", Kind::Plain),
-        ("/ex:a [b='c']", Kind::Plain),
-        ("/ex:a[b='c\"]", Kind::Plain),
-        ("/ex:a[.:b='c']", Kind::Plain),
-        ("/ex:1a", Kind::Plain),
-        ("//ex:a", Kind::Plain),
-        ("1.03", Kind::Plain),
-        ("01.3", Kind::Plain),
-        ("3.1", Kind::Plain),
-        ("2.999", Kind::Oid),
-        ("0.39.0", Kind::Oid),
-        ("1", Kind::Plain),
-        ("1.3.", Kind::Plain),
-    ];
-    for (text, kind) in &cases {
-        let resource = Resource::read(alloc, text.as_bytes())?;
-        assert_eq!(rt; resource.kind(), *kind, "{text}");
-    }
-    Ok(())
+    let wrong = |(text, kind): &(&str, Kind)| {
+        !Resource::read(alloc, text.as_bytes()).is_ok_and(|resource| resource.kind() == *kind)
+    };
+    assert_eq!(rt; KINDS.iter().position(wrong), None);
 }
+
+/// Bytes that are no resource, with the fault.
+const FAULTS: [(&[u8], ResourceFault); 4] = [
+    (&[], ResourceFault::Empty),
+    (&[b'a'; 513], ResourceFault::TooLong),
+    (&[0xff; 513], ResourceFault::TooLong),
+    (&[0xff; 512], ResourceFault::NotUtf8),
+];
 
 #[test]
 fn refuses_in_order(rt: HostRuntime) {
     let alloc = rt.alloc();
-    let long = [b'a'; 513];
-    let no_text = [0xff; 512];
-    let cases: [(&[u8], ResourceFault); 4] = [
-        (&[], ResourceFault::Empty),
-        (long.as_slice(), ResourceFault::TooLong),
-        (&[0xff; 513], ResourceFault::TooLong),
-        (no_text.as_slice(), ResourceFault::NotUtf8),
-    ];
-    for (text, fault) in &cases {
-        match Resource::read(alloc, text) {
-            Ok(_) => panic!(rt; "a resource of {} bytes", text.len()),
-            Err(found) => assert_eq!(rt; found, *fault),
-        }
-    }
+    let wrong = |(text, fault): &(&[u8], ResourceFault)| Resource::read(alloc, text).err()
+        != Some(*fault);
+    assert_eq!(rt; FAULTS.iter().position(wrong), None);
 }
 
-fn key(rt: &HostRuntime, resource: &str, type_id: &str, qualifier: &str) -> Result<AlarmKey, Fail> {
-    let alloc = rt.alloc();
-    Ok(AlarmKey {
-        resource: Resource::read(alloc, resource.as_bytes())?,
-        type_id: TypeId::read(alloc, type_id.as_bytes())?,
-        qualifier: Text::read(alloc, qualifier.as_bytes())?,
+/// Keys in rising order.
+const RISING: [[&str; 3]; 5] = [
+    ["a", "z:z", "q"],
+    ["ab", "a:b", ""],
+    ["b", "a:b", "z"],
+    ["b", "a:bb", ""],
+    ["b", "a:bb", "a"],
+];
+
+fn key(alloc: Global, [resource, type_id, qualifier]: &[&str; 3]) -> Option<AlarmKey> {
+    Some(AlarmKey {
+        resource: Resource::read(alloc, resource.as_bytes()).ok()?,
+        type_id: TypeId::read(alloc, type_id.as_bytes()).ok()?,
+        qualifier: Text::read(alloc, qualifier.as_bytes()).ok()?,
     })
 }
 
-#[test]
-fn orders_keys(rt: HostRuntime) -> Result<(), Fail> {
-    let rising = [
-        key(&rt, "a", "z:z", "q")?,
-        key(&rt, "ab", "a:b", "")?,
-        key(&rt, "b", "a:b", "z")?,
-        key(&rt, "b", "a:bb", "")?,
-        key(&rt, "b", "a:bb", "a")?,
-    ];
-    for (place, this) in rising.iter().enumerate() {
-        for (later, other) in rising.iter().enumerate() {
-            assert_eq!(rt; this.cmp(other), place.cmp(&later), "{place} and {later}");
-        }
-        let copy = this.copy(rt.alloc())?;
-        assert!(rt; copy == *this);
+/// Whether the two are keys, which stand as their places do.
+fn stand(alloc: Global, place: usize, later: usize) -> bool {
+    match (
+        key(alloc, &RISING[place % 5]),
+        key(alloc, &RISING[later % 5]),
+    ) {
+        (Some(this), Some(other)) => this.cmp(&other) == place.cmp(&later),
+        _ => false,
     }
-    Ok(())
+}
+
+#[test]
+fn orders_keys(rt: HostRuntime) {
+    let alloc = rt.alloc();
+    assert!(rt; (0..5).all(|place| (0..5).all(|later| stand(alloc, place, later))));
+    let copied = |names: &[&str; 3]| {
+        key(alloc, names).is_some_and(|key| key.copy(alloc).is_ok_and(|copy| copy == key))
+    };
+    assert!(rt; RISING.iter().all(copied));
 }

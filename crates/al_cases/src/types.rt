@@ -1,13 +1,13 @@
 //! Inventories.
 
-use al_base::{Copied, EventType, List, Severity, Text, TypeFault, TypeId};
+use al_base::{Copied, EventType, List, Severity, Text, TypeId};
 use al_types::{Identity, Inventory, InventoryFault, Row};
 use std::alloc::Global;
 use std::test::Fail;
 
 const ROOT: &str = "ietf-alarms:alarm-type-id";
 
-fn identity(alloc: Global, name: &str, base: &str) -> Result<Identity, TypeFault> {
+fn identity(alloc: Global, name: &str, base: &str) -> Result<Identity, Fail> {
     Ok(Identity {
         name: TypeId::read(alloc, name.as_bytes())?,
         base: TypeId::read(alloc, base.as_bytes())?,
@@ -26,167 +26,125 @@ fn row(alloc: Global, type_id: &str, qualifier: &str, severities: u8) -> Result<
     })
 }
 
-/// The identities of these names and bases.
-fn identities(alloc: Global, pairs: &[(&str, &str)]) -> Result<Vec<Identity>, Fail> {
+/// The inventory of these names and bases, and of so many equal rows; or its fault.
+fn build(
+    alloc: Global,
+    pairs: &[(&str, &str)],
+    count: usize,
+) -> Result<Result<Inventory, InventoryFault>, Fail> {
     let mut identities = Vec::new(alloc);
     for (name, base) in pairs {
         identities.push(identity(alloc, name, base)?)?;
     }
-    Ok(identities)
-}
-
-/// So many rows of one type and qualifier.
-fn equal_rows(alloc: Global, count: usize) -> Result<Vec<Row>, Fail> {
     let mut rows = Vec::new(alloc);
     for _ in 0..count {
         rows.push(row(alloc, "ex:a", "q", 0)?)?;
     }
-    Ok(rows)
+    Ok(Inventory::build(alloc, identities, rows))
 }
 
-/// So many identities of one name.
-fn equal_identities(alloc: Global, count: usize) -> Result<Vec<Identity>, Fail> {
-    let mut identities = Vec::new(alloc);
-    for _ in 0..count {
-        identities.push(identity(alloc, "ex:a", ROOT)?)?;
-    }
-    Ok(identities)
-}
-
-/// The fault of the lists, if they have one.
-fn fault_of(alloc: Global, identities: Vec<Identity>, rows: Vec<Row>) -> Option<InventoryFault> {
-    Inventory::build(alloc, identities, rows).err()
-}
-
-fn derives(alloc: Global, inventory: &Inventory, t: &str, base: &str) -> Result<bool, Fail> {
-    let pair = identity(alloc, t, base)?;
-    Ok(inventory.derives(&pair.name, &pair.base))
-}
-
-/// Whether the row of this type and qualifier is found, and is like the rows of `equal_rows`.
-fn finds(
-    alloc: Global,
-    inventory: &Inventory,
-    type_id: &str,
-    qualifier: &str,
-) -> Result<bool, Fail> {
-    let wanted = row(alloc, type_id, qualifier, 0)?;
-    Ok(inventory.row(&wanted.type_id, &wanted.qualifier) == Some(&wanted))
-}
-
-fn allows(alloc: Global, severities: u8, severity: Severity) -> Result<bool, Fail> {
-    Ok(row(alloc, "ex:a", "q", severities)?.allows(severity))
-}
+/// Names and bases, how many equal rows, and the fault if they have one.
+const BUILT: [(&[(&str, &str)], usize, Option<InventoryFault>); 9] = [
+    (
+        &[("ex:a", "ex:b"), ("ex:b", ROOT)],
+        2,
+        Some(InventoryFault::UnknownBase(0)),
+    ),
+    (
+        &[(ROOT, ROOT), ("ex:a", ROOT)],
+        2,
+        Some(InventoryFault::DuplicateIdentity(0)),
+    ),
+    (
+        &[("ex:a", "ex:b"), ("ex:a", ROOT)],
+        2,
+        Some(InventoryFault::DuplicateIdentity(1)),
+    ),
+    (
+        &[("ex:b", ROOT), ("ex:a", "ex:a")],
+        2,
+        Some(InventoryFault::UnknownBase(1)),
+    ),
+    (&[], 1, None),
+    (&[], 2, Some(InventoryFault::DuplicateRow(1))),
+    (&[], 2001, Some(InventoryFault::TooMany)),
+    (
+        &[("ex:a", ROOT); 2000],
+        0,
+        Some(InventoryFault::DuplicateIdentity(1)),
+    ),
+    (&[("ex:a", ROOT); 2001], 0, Some(InventoryFault::TooMany)),
+];
 
 #[test]
-fn refuses_identities(rt: HostRuntime) -> Result<(), Fail> {
-    let alloc = rt.alloc();
-    for (pairs, fault) in [
-        (
-            [("ex:a", "ex:b"), ("ex:b", ROOT)],
-            InventoryFault::UnknownBase(0),
-        ),
-        (
-            [(ROOT, ROOT), ("ex:a", ROOT)],
-            InventoryFault::DuplicateIdentity(0),
-        ),
-        (
-            [("ex:a", "ex:b"), ("ex:a", ROOT)],
-            InventoryFault::DuplicateIdentity(1),
-        ),
-        (
-            [("ex:b", ROOT), ("ex:a", "ex:a")],
-            InventoryFault::UnknownBase(1),
-        ),
-    ] {
-        let declared = identities(alloc, pairs.as_slice())?;
-        let rows = equal_rows(alloc, 2)?;
-        assert_eq!(rt; fault_of(alloc, declared, rows), Some(fault));
+fn refuses_what_is_no_inventory(rt: HostRuntime) -> Result<(), Fail> {
+    for (pairs, count, fault) in &BUILT {
+        assert_eq!(rt; build(rt.alloc(), pairs, *count)?.err(), *fault);
     }
     Ok(())
 }
 
-#[test]
-fn refuses_too_many_and_equal(rt: HostRuntime) -> Result<(), Fail> {
-    let alloc = rt.alloc();
-    for (names, rows, fault) in [
-        (0, 1, None),
-        (0, 2, Some(InventoryFault::DuplicateRow(1))),
-        (0, 2001, Some(InventoryFault::TooMany)),
-        (2000, 0, Some(InventoryFault::DuplicateIdentity(1))),
-        (2001, 0, Some(InventoryFault::TooMany)),
-    ] {
-        let declared = equal_identities(alloc, names)?;
-        let rows = equal_rows(alloc, rows)?;
-        assert_eq!(rt; fault_of(alloc, declared, rows), fault);
-    }
-    Ok(())
+/// Whether the one type derives from the other, in a copy of the inventory.
+fn derives(alloc: Global, inventory: &Inventory, name: &str, base: &str) -> Result<bool, Fail> {
+    let pair = identity(alloc, name, base)?;
+    Ok(inventory.copy(alloc)?.derives(&pair.name, &pair.base))
 }
 
-/// An inventory of two types, the second derived from the first.
-fn two_types(alloc: Global) -> Result<Inventory, Fail> {
-    let declared = identities(alloc, &[("ex:b", ROOT), ("ex:c", "ex:b")])?;
-    Ok(Inventory::build(alloc, declared, Vec::new(alloc))?)
-}
-
-/// In two types and a copy of them.
-fn derives_in_two(alloc: Global, t: &str, base: &str) -> Result<bool, Fail> {
-    let inventory = two_types(alloc)?;
-    let copy = inventory.copy(alloc)?;
-    Ok(copy == inventory && derives(alloc, &copy, t, base)?)
-}
-
-fn derives_in_none(alloc: Global, t: &str, base: &str) -> Result<bool, Fail> {
-    derives(alloc, &Inventory::empty(alloc), t, base)
-}
+/// Two types, and whether the one derives from the other in an inventory that declares c on b; and in an empty one.
+const BASES: [(&str, &str, bool, bool); 7] = [
+    ("ex:c", "ex:b", true, false),
+    ("ex:c", ROOT, true, false),
+    ("ex:c", "ex:c", true, true),
+    ("ex:b", "ex:c", false, false),
+    (ROOT, "ex:b", false, false),
+    ("ex:a", ROOT, false, false),
+    ("ex:a", "ex:a", true, true),
+];
 
 #[test]
 fn follows_bases(rt: HostRuntime) -> Result<(), Fail> {
-    for (t, base, in_two, in_none) in [
-        ("ex:c", "ex:b", true, false),
-        ("ex:c", ROOT, true, false),
-        ("ex:c", "ex:c", true, true),
-        ("ex:b", "ex:c", false, false),
-        (ROOT, "ex:b", false, false),
-        ("ex:a", ROOT, false, false),
-        ("ex:a", "ex:a", true, true),
-    ] {
-        assert_eq!(rt; derives_in_two(rt.alloc(), t, base)?, in_two, "{t} {base}");
-        assert_eq!(rt;
-            derives_in_none(rt.alloc(), t, base)?,
-            in_none,
-            "{t} {base}"
-        );
+    let alloc = rt.alloc();
+    let two = build(alloc, &[("ex:b", ROOT), ("ex:c", "ex:b")], 0)??;
+    let none = Inventory::empty(alloc);
+    for (name, base, in_two, in_none) in &BASES {
+        assert_eq!(rt; derives(alloc, &two, name, base)?, *in_two);
+        assert_eq!(rt; derives(alloc, &none, name, base)?, *in_none);
     }
     Ok(())
+}
+
+/// Whether the row of this type and qualifier is found, and is like those that are built.
+fn finds(alloc: Global, inventory: &Inventory, name: &str, qualifier: &str) -> Result<bool, Fail> {
+    let wanted = row(alloc, name, qualifier, 0)?;
+    Ok(inventory.row(&wanted.type_id, &wanted.qualifier) == Some(&wanted))
 }
 
 #[test]
 fn finds_rows(rt: HostRuntime) -> Result<(), Fail> {
     let alloc = rt.alloc();
-    let inventory = Inventory::build(alloc, Vec::new(alloc), equal_rows(alloc, 1)?)?;
-    for (type_id, qualifier, found) in [
-        ("ex:a", "q", true),
-        ("ex:a", "r", false),
-        ("ex:b", "q", false),
-    ] {
-        assert_eq!(rt; finds(alloc, &inventory, type_id, qualifier)?, found);
-    }
+    let inventory = build(alloc, &[], 1)??;
+    assert!(rt; finds(alloc, &inventory, "ex:a", "q")?);
+    assert!(rt; !finds(alloc, &inventory, "ex:a", "r")?);
+    assert!(rt; !finds(alloc, &inventory, "ex:b", "q")?);
     Ok(())
 }
 
-// Sets of severities: indeterminate and major, then none, then a bit that stands for no severity.
+/// Sets of severities, a severity, and whether it is allowed: indeterminate and major, then none, then a bit that stands
+/// for no severity.
+const SETS: [(u8, Severity, bool); 6] = [
+    (0b01001, Severity::Indeterminate, true),
+    (0b01001, Severity::Warning, false),
+    (0b01001, Severity::Major, true),
+    (0b01001, Severity::Critical, false),
+    (0, Severity::Critical, true),
+    (0b100000, Severity::Critical, false),
+];
+
 #[test]
 fn allows_severities(rt: HostRuntime) -> Result<(), Fail> {
-    for (severities, severity, allowed) in [
-        (0b01001, Severity::Indeterminate, true),
-        (0b01001, Severity::Warning, false),
-        (0b01001, Severity::Major, true),
-        (0b01001, Severity::Critical, false),
-        (0, Severity::Critical, true),
-        (0b100000, Severity::Critical, false),
-    ] {
-        assert_eq!(rt; allows(rt.alloc(), severities, severity)?, allowed);
+    for (severities, severity, allowed) in &SETS {
+        let row = row(rt.alloc(), "ex:a", "q", *severities)?;
+        assert_eq!(rt; row.allows(*severity), *allowed);
     }
     Ok(())
 }
