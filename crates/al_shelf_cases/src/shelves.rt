@@ -24,14 +24,13 @@ fn text(alloc: Global, text: &str) -> Result<Text, Fail> {
 }
 
 fn spot(alloc: Global, at: At) -> Result<Spot, Fail> {
-    let spot = match at {
+    Ok(match at {
         At::First => Spot::First,
         At::Last => Spot::Last,
         At::Before(point) => Spot::Before(text(alloc, point)?),
         At::After(point) => Spot::After(text(alloc, point)?),
         At::Keep => Spot::Keep,
-    };
-    Ok(spot.copy(alloc)?)
+    })
 }
 
 /// Puts a shelf without criteria at the spot.
@@ -64,15 +63,11 @@ fn remove(shelves: &mut Shelves, alloc: Global, name: &str) -> Result<bool, Fail
     Ok(shelves.remove(&text(alloc, name)?).is_some())
 }
 
-/// The names of the shelves, one behind the other.
-fn names(alloc: Global, shelves: &Shelves) -> Result<Vec<u8>, Fail> {
-    let mut names = Vec::new(alloc);
-    for n in 0..shelves.len() {
-        if let Some(shelf) = shelves.at(n) {
-            names.extend_from_slice(shelf.name.bytes())?;
-        }
-    }
-    Ok(names)
+/// Whether these bytes are the names of the shelves, one after the other.
+fn are_named(shelves: &Shelves, names: &[u8]) -> bool {
+    let named = |place: usize| shelves.at(place).map(|shelf| shelf.name.bytes());
+    shelves.len() == names.len()
+        && (0..=names.len()).all(|place| named(place) == names.get(place..=place))
 }
 
 /// A shelf of this name, put there into a, b and c: the answer, and the names then.
@@ -93,50 +88,64 @@ const SPOTS: [(&str, At, Result<Placed, ShelfFault>, &str); 14] = [
     ("b", At::Before("b"), Err(ShelfFault::NoPoint), "abc"),
 ];
 
+/// Whether the shelf is put into a, b and c with this answer, and leaves these names.
+fn puts(
+    alloc: Global,
+    name: &str,
+    at: At,
+    answer: &Result<Placed, ShelfFault>,
+    after: &str,
+) -> Result<bool, Fail> {
+    let mut shelves = three_shelves(alloc)?;
+    Ok(put(&mut shelves, alloc, name, at)? == *answer && are_named(&shelves, after.as_bytes()))
+}
+
 #[test]
 fn puts_at_spots(rt: HostRuntime) -> Result<(), Fail> {
-    let alloc = rt.alloc();
     for (name, at, answer, after) in &SPOTS {
-        let mut shelves = three_shelves(alloc)?;
-        assert_eq!(rt; put(&mut shelves, alloc, name, *at)?, *answer, "{after}");
-        assert_eq!(rt; names(alloc, &shelves)?.as_slice(), after.as_bytes());
+        assert!(rt; puts(rt.alloc(), name, *at, answer, after)?, "{after}");
     }
     Ok(())
 }
 
-#[test]
-fn puts_no_more_than_64(rt: HostRuntime) -> Result<(), Fail> {
-    let alloc = rt.alloc();
+/// Sixty-four shelves.
+fn many_shelves(alloc: Global) -> Result<Shelves, Fail> {
     let mut shelves = Shelves::new(alloc);
     for n in 0..64 {
         put(&mut shelves, alloc, &format!(in alloc; "{n}")?, At::Last)??;
     }
-    let cases = [
+    Ok(shelves)
+}
+
+#[test]
+fn puts_no_more_than_64(rt: HostRuntime) -> Result<(), Fail> {
+    let mut shelves = many_shelves(rt.alloc())?;
+    for (name, at, answer) in [
         ("64", At::Last, Err(ShelfFault::TooMany)),
         ("64", At::Before("x"), Err(ShelfFault::NoPoint)),
         ("10", At::First, Ok(Placed::Replaced(0))),
-    ];
-    for (name, at, answer) in cases {
-        assert_eq!(rt; put(&mut shelves, alloc, name, at)?, answer);
-        assert_eq!(rt; shelves.len(), 64);
+    ] {
+        assert_eq!(rt; put(&mut shelves, rt.alloc(), name, at)?, answer);
     }
+    assert_eq!(rt; shelves.len(), 64);
     Ok(())
+}
+
+/// Whether removing the name from a, b and c finds it or doesn't, and leaves these names.
+fn removes(alloc: Global, name: &str, found: bool, after: &str) -> Result<bool, Fail> {
+    let mut shelves = three_shelves(alloc)?;
+    Ok(remove(&mut shelves, alloc, name)? == found && are_named(&shelves, after.as_bytes()))
 }
 
 #[test]
 fn removes_by_name(rt: HostRuntime) -> Result<(), Fail> {
-    let alloc = rt.alloc();
-    let cases = [
+    for (name, found, after) in [
         ("a", true, "bc"),
         ("b", true, "ac"),
         ("c", true, "ab"),
         ("d", false, "abc"),
-    ];
-    for (name, found, after) in cases {
-        let mut shelves = three_shelves(alloc)?;
-        assert_eq!(rt; remove(&mut shelves, alloc, name)?, found, "{after}");
-        assert_eq!(rt; names(alloc, &shelves)?.as_slice(), after.as_bytes());
-        assert!(rt; shelves.at(after.len()).is_none());
+    ] {
+        assert!(rt; removes(rt.alloc(), name, found, after)?, "{after}");
     }
     Ok(())
 }
@@ -156,7 +165,7 @@ fn inventory(alloc: Global) -> Result<Inventory, Fail> {
     Ok(Inventory::build(alloc, identities, Vec::new(alloc))?)
 }
 
-fn key(alloc: Global, parts: [&str; 3]) -> Result<AlarmKey, Fail> {
+fn key(alloc: Global, parts: &[&str; 3]) -> Result<AlarmKey, Fail> {
     Ok(AlarmKey {
         resource: Resource::read(alloc, parts[0].as_bytes())?,
         type_id: TypeId::read(alloc, parts[1].as_bytes())?,
@@ -165,16 +174,15 @@ fn key(alloc: Global, parts: [&str; 3]) -> Result<AlarmKey, Fail> {
 }
 
 #[test]
-fn first_of_two_without_criteria(rt: HostRuntime) -> Result<(), Fail> {
+fn first_of_those_without_criteria(rt: HostRuntime) -> Result<(), Fail> {
     let alloc = rt.alloc();
     let inventory = inventory(alloc)?;
-    let key = key(alloc, ["eth1", "ex:link", ""])?;
+    let key = key(alloc, &["eth1", "ex:link", ""])?;
     let mut shelves = three_shelves(alloc)?.copy(alloc)?;
     for (first, name) in [(Some(0), "a"), (Some(0), "c"), (Some(0), "b"), (None, "d")] {
         assert_eq!(rt; shelves.first(&inventory, &key), first, "{name}");
         remove(&mut shelves, alloc, name)?;
     }
-    assert!(rt; shelves.is_empty());
     Ok(())
 }
 
@@ -200,7 +208,7 @@ fn types(alloc: Global, type_id: &str, qualifier: &str) -> Result<List<TypeMatch
 }
 
 /// A shelf of these criteria.
-fn shelf(alloc: Global, criteria: [&str; 3]) -> Result<Shelf, Fail> {
+fn shelf(alloc: Global, criteria: &[&str; 3]) -> Result<Shelf, Fail> {
     Ok(Shelf {
         name: text(alloc, "a")?,
         resources: resources(alloc, criteria[0])?,
@@ -236,9 +244,8 @@ fn takes_by_criteria(rt: HostRuntime) -> Result<(), Fail> {
     let alloc = rt.alloc();
     let inventory = inventory(alloc)?;
     for (criteria, parts, wanted) in &CRITERIA {
-        let shelf = shelf(alloc, *criteria)?;
-        assert!(rt; shelf.copy(alloc)? == shelf);
-        let answer = shelf.takes(&inventory, &key(alloc, *parts)?);
+        let shelf = shelf(alloc, criteria)?.copy(alloc)?;
+        let answer = shelf.takes(&inventory, &key(alloc, parts)?);
         assert_eq!(rt; answer, *wanted, "{} {}", parts[0], parts[2]);
     }
     Ok(())
