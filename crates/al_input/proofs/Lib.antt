@@ -1,0 +1,10 @@
+pub mod Due
+pub mod InventoryTests
+pub mod Listed
+pub mod MatchTests
+pub mod Named
+pub mod PlainNumbers
+pub mod Readings
+pub mod TextTests
+pub mod Within
+pub mod WordLemmas

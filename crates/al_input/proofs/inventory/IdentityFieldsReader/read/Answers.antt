@@ -1,0 +1,9 @@
+use Rattle.std.proofs.Common.{rules, refl, arith}
+use Rattle.std.proofs.lemmas.Grind.{common_steps}
+use Rattle.al_input.proofs.Due.{fault_first}
+use Rattle.al_input.specs.Inputs.{identity}
+use Rattle.al_input.proofs.inventory.IdentityFieldsReader.read.Goals as goal
+
+pub returns : goal.returns
+unfolding identity
+returns c = rw (c.in_ok-check_names.ensures, c.in_ok-name.ensures, c.in_ok-base.ensures) refl

@@ -1,0 +1,9 @@
+use Rattle.std.proofs.Common.{rules, refl, arith}
+use Rattle.std.proofs.lemmas.Grind.{common_steps}
+use Rattle.al_input.proofs.Due.{fault_first}
+use Rattle.al_input.specs.Inputs.{purge}
+use Rattle.al_input.proofs.purge.PurgeFieldsReader.read.Goals as goal
+
+pub returns : goal.returns
+unfolding purge
+returns c = rw (c.in_ok-check_names.ensures, c.in_ok-clearance.ensures, c.in_ok-age.ensures, c.in_ok-severity.ensures, c.in_ok-state.ensures) refl

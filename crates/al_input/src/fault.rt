@@ -1,0 +1,51 @@
+use std::alloc::{AllocError, AllocFailed};
+use std::error::Error;
+use std::fmt;
+
+/// Why a body asks for nothing. The first that is due is answered.
+#[derive(Clone, Copy, Debug, PartialEq, Eq)]
+pub enum InputFault {
+    /// An object has a member that isn't known there.
+    Unknown,
+    /// A member that is required is absent.
+    Missing,
+    /// A value is of another kind, or outside its limits or its form, or a member stands there in both its spellings.
+    BadValue,
+    /// There was no memory for what is asked.
+    Memory,
+}
+
+impl From<AllocError> for InputFault {
+    ghost use Rattle.std.specs.Prelude.{◌≡◌};
+    ghost use Rattle.al_input.specs.declared.fault.InputFault.TheVariants.{Memory};
+
+    ghost from_gives = { λ _ fault. fault ≡ Memory };
+
+    fn from(_error: AllocError) -> InputFault {
+        InputFault::Memory
+    }
+}
+
+impl<T: Drop> From<AllocFailed<T>> for InputFault {
+    ghost use Rattle.std.specs.Prelude.{◌≡◌};
+    ghost use Rattle.al_input.specs.declared.fault.InputFault.TheVariants.{Memory};
+
+    ghost from_gives = { λ _ fault. fault ≡ Memory };
+
+    fn from(_error: AllocFailed<T>) -> InputFault {
+        InputFault::Memory
+    }
+}
+
+impl fmt::Display for InputFault {
+    fn fmt<W: fmt::Write>(&self, f: &mut fmt::Formatter<W>) -> fmt::Result {
+        f.write_str(match self {
+            InputFault::Unknown => "unknown member",
+            InputFault::Missing => "missing member",
+            InputFault::BadValue => "bad value",
+            InputFault::Memory => "out of memory",
+        })
+    }
+}
+
+impl Error for InputFault {}
