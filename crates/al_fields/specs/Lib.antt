@@ -1,0 +1,4 @@
+pub mod Leaves
+pub mod Lengths
+pub mod Members
+pub mod Texts
