@@ -1,0 +1,11 @@
+pub mod Alarms
+pub mod Controls
+pub mod Histories
+pub mod Inventories
+pub mod Notes
+pub mod Outputs
+pub mod Pieces
+pub mod Shelves
+pub mod Summaries
+pub mod Trees
+pub mod Wholes

@@ -1,0 +1,22 @@
+-- The tree of all containers (RFC 8632, container `alarms`).
+use Rattle.std.specs.Prelude.{ℕ, List, [], ◌∷◌, Option, Some, codes}
+use Rattle.al_fields.specs.Members.{object_of}
+use Rattle.al_model.specs.State.{State, inventory_of}
+use Rattle.al_model.specs.Summary.{has_shelved, summary_of}
+use Rattle.serde_json.specs.Data.{Data}
+use Rattle.al_json.specs.Alarms.{alarm_list_tree, shelved_alarms_tree}
+use Rattle.al_json.specs.Controls.{control_tree}
+use Rattle.al_json.specs.Inventories.{alarm_inventory_tree}
+use Rattle.al_json.specs.Summaries.{summary_tree}
+
+abbrev pub alarms_fields : State → List (List ℕ × Option Data)
+alarms_fields s =
+    (codes "alarm-inventory", Some (alarm_inventory_tree (inventory_of s).rows))
+    ∷ (codes "alarm-list", Some (alarm_list_tree s))
+    ∷ (codes "control", Some (control_tree s))
+    ∷ (codes "shelved-alarms", Some (shelved_alarms_tree s))
+    ∷ (codes "summary", Some (summary_tree (summary_of s) (has_shelved s)))
+    ∷ []
+
+unfoldable pub alarms_tree : State → Data
+alarms_tree s = object_of (alarms_fields s)
