@@ -1,0 +1,9 @@
+pub mod Bodies
+pub mod Changes
+pub mod Faults
+pub mod Fields
+pub mod Machine
+pub mod Methods
+pub mod Reads
+pub mod Receipts
+pub mod Targets

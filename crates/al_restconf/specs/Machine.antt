@@ -1,0 +1,72 @@
+-- The machine of the resources: over a history, a request of an origin at a reading of the clock has this answer, and adds these entries.
+use Rattle.std.specs.Prelude.{◌≡◌, ◌≤◌, ◌++◌, All, ℕ, Bool, Result, Ok, Err, List, [], codes, length}
+use Rattle.al_http.specs.Requests.{RequestMessage}
+use Rattle.al_http.specs.declared.response.Response.{Response}
+use Rattle.al_model.specs.History.{replay}
+use Rattle.al_model.specs.declared.entry.Entry.{Entry}
+use Rattle.al_model.specs.declared.kept.Mark.{Mark}
+use Rattle.al_uri.specs.Answers.{and_then}
+use Rattle.al_uri.specs.Resources.{is_same}
+use Rattle.al_uri.specs.declared.target.Target.{Target}
+use Rattle.al_restconf.specs.Bodies.{request_asks}
+use Rattle.al_restconf.specs.Changes.{Answer, changed}
+use Rattle.al_restconf.specs.Faults.{told}
+use Rattle.al_restconf.specs.Fields.{accepted, typed}
+use Rattle.al_restconf.specs.Methods.{method_at}
+use Rattle.al_restconf.specs.Reads.{read_of}
+use Rattle.al_restconf.specs.Targets.{target_in}
+use Rattle.al_restconf.specs.declared.fault.Fault.{Fault}
+use Rattle.al_restconf.specs.declared.method.Method.{Method}
+use Rattle.al_restconf.specs.declared.method.Method.TheVariants.{Get, Head}
+
+-- a read adds nothing
+abbrev pub only_read : Result Response Fault → Result Answer Fault
+only_read said = and_then said (λ response. Ok (record { response = response; entries = [] }))
+
+-- HEAD is answered as GET is. Every other method asks for a change.
+unfoldable pub done_by : List Entry → ℕ → ℕ → Target → Method → RequestMessage → Result Answer Fault
+done_by before origin reading target Get request = only_read (read_of (replay before) (length before) target)
+done_by before origin reading target Head request = only_read (read_of (replay before) (length before) target)
+done_by before origin reading target method request =
+    and_then (request_asks method target request) (λ asked. changed before origin reading target asked)
+
+-- The first of these that refuses: the path with its query, the method, the types of answers, the type of the body, the body, what it asks
+-- for, and the alarm list.
+unfoldable pub answered : List Entry → ℕ → ℕ → RequestMessage → Result Answer Fault
+answered before origin reading request =
+    and_then (target_in request) (λ target.
+    and_then (method_at target request.method) (λ method.
+    and_then (accepted target request) (λ _.
+    and_then (typed method request) (λ _.
+    done_by before origin reading target method request))))
+
+-- a response to HEAD leaves its body out, a refusal's too (RFC 9110, section 9.3.2)
+abbrev pub is_head : RequestMessage → Bool
+is_head request = is_same request.method (codes "HEAD")
+
+abbrev pub barely : Bool → Response → Response
+barely bare response = record response { bare = bare }
+
+abbrev pub answer_by : ℕ → Bool → Result Answer Fault → Answer
+answer_by place bare (Ok answer) = record { response = barely bare answer.response; entries = answer.entries }
+answer_by place bare (Err fault) = record { response = barely bare (told place fault); entries = [] }
+
+-- the answer, which tells the length of the history before it
+unfoldable pub answer_of : List Entry → ℕ → RequestMessage → ℕ → Answer
+answer_of before origin request reading = answer_by (length before) (is_head request) (answered before origin reading request)
+
+-- The response is the machine's, and the history grew by just its entries.
+pub record Answers (before after : List Entry) (origin : ℕ) (request : RequestMessage) (reading : ℕ) (response : Response) : Type 0 where
+  pub response_is : response ≡ (answer_of before origin request reading).response
+  pub grown : after ≡ before ++ (answer_of before origin request reading).entries
+
+-- A history grew by one entry at most, of that origin.
+pub record AddsOne (origin : ℕ) (before after : List Entry) : Type 0 where
+  pub entries : List Entry
+  pub grown : after ≡ before ++ entries
+  pub own : All (λ entry. entry.origin ≡ origin) entries
+  pub few : length entries ≤ 1
+
+-- what the service may answer
+abbrev pub IsAnswer : Mark → ℕ → RequestMessage → ℕ → Response → Mark → Type 0
+IsAnswer before origin request reading response after = Answers before.entries after.entries origin request reading response

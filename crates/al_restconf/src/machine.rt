@@ -1,0 +1,110 @@
+ghost use Rattle.al_http.specs.Responses.{HasText};
+ghost use Rattle.al_http.specs.Shown.{message_of};
+ghost use Rattle.al_restconf.specs.Changes.{Carries};
+ghost use Rattle.al_restconf.specs.Faults.{told};
+ghost use Rattle.al_restconf.specs.Machine.{AddsOne, Answers, answered, done_by, is_head};
+ghost use Rattle.al_uri.specs.Limits.{IsTargetWithin};
+ghost use Rattle.std.specs.Prelude.{◌≡◌, IfOk, OnErr, Some, length};
+
+use crate::body::request_asks;
+use crate::change::change;
+use crate::fault::Fault;
+use crate::fields::{check_accept, check_type};
+use crate::method::Method;
+use crate::read::read;
+use crate::target::read_target;
+use al_base::Stamp;
+use al_http::{HttpRequest, Response};
+use al_model::Kept;
+use al_office::Office;
+use al_uri::Target;
+use std::alloc::{AllocError, Global};
+
+fn is_head(request: &HttpRequest) -> bool
+    ensures { result ≡ is_head (message_of request.now) }
+{
+    request.method() == b"HEAD".as_slice()
+}
+
+/// What the request is answered by a method that its resource has.
+#[tactic(auto, unfolding(crate::specs::Machine::done_by))]
+fn done_by(
+    alloc: Global,
+    office: &mut Office,
+    origin: u16,
+    target: &Target,
+    method: Method,
+    request: &HttpRequest,
+    now: Stamp,
+) -> Result<Response, Fault>
+    requires { IsTargetWithin target.now }
+    ensures carried { Carries office.old.entries office.new.entries origin (done_by office.old.entries origin now target.now method (message_of request.now)) result }
+    ensures place { IfOk result (λ response. response.place ≡ Some (length office.old.entries)) }
+    ensures text { IfOk result HasText }
+{
+    match method {
+        Method::Get | Method::Head => read(alloc, office, target),
+        Method::Delete | Method::Post | Method::Put => {
+            let asked = request_asks(alloc, method, target, request)?;
+            change(alloc, office, origin, target, asked, now)
+        }
+    }
+}
+
+/// What the request is answered, the first refusal that is due or what it asks for.
+#[tactic(auto, unfolding(crate::specs::Machine::answered))]
+fn answered(
+    alloc: Global,
+    office: &mut Office,
+    origin: u16,
+    request: &HttpRequest,
+    now: Stamp,
+) -> Result<Response, Fault>
+    ensures carried { Carries office.old.entries office.new.entries origin (answered office.old.entries origin now (message_of request.now)) result }
+    ensures place { IfOk result (λ response. response.place ≡ Some (length office.old.entries)) }
+    ensures text { IfOk result HasText }
+{
+    let target = read_target(alloc, request)?;
+    let method = Method::at(&target, request.method())?;
+    check_accept(&target, request)?;
+    check_type(method, request)?;
+    done_by(alloc, office, origin, &target, method, request, now)
+}
+
+/// How a fault is told; want of memory is told by the caller.
+fn tell(fault: Fault, place: u64) -> Result<Response, AllocError>
+    ensures value { IfOk result (λ response. (response ≡ told place fault) × ¬ (fault ≡ Fault.Memory)) }
+    ensures place { IfOk result (λ response. response.place ≡ Some place) }
+    ensures text { IfOk result HasText }
+{
+    match fault {
+        Fault::Memory => Err(AllocError),
+        fault => Ok(fault.told(place)),
+    }
+}
+
+/// Answers the request over the office's history, at a reading of the clock.
+///
+/// A request that is carried out adds one entry of this origin at most. Where there is no memory for an answer nothing has changed.
+#[tactic(auto, unfolding(crate::specs::Machine::answer_of))]
+pub fn answer(
+    alloc: Global,
+    office: &mut Office,
+    origin: u16,
+    request: &HttpRequest,
+    now: Stamp,
+) -> Result<Response, AllocError>
+    ensures answered { IfOk result (Answers office.old.entries office.new.entries origin (message_of request.now) now) }
+    ensures adds { AddsOne origin office.old.entries office.new.entries }
+    ensures place { IfOk result (λ response. response.place ≡ Some (length office.old.entries)) }
+    ensures text { IfOk result HasText }
+    ensures unanswered { OnErr result (office.new.entries ≡ office.old.entries) }
+{
+    let place = office.entries();
+    let mut response = match answered(alloc, office, origin, request, now) {
+        Ok(response) => response,
+        Err(fault) => tell(fault, place)?,
+    };
+    response.bare = is_head(request);
+    Ok(response)
+}
