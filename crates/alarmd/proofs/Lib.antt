@@ -1,5 +1,1 @@
-mod Answering
-mod Cutting
-mod Reporting
-mod Starting
 mod Turning

@@ -18,10 +18,11 @@ use Rattle.al_http.specs.declared.request.HttpRequest.{HttpRequest}
 use Rattle.alarmd.specs.declared.conversation.Cause.{Cause}
 use Rattle.alarmd.specs.declared.conversation.Cause.TheVariants as causes
 use Rattle.al_http.specs.Requests.{RequestMessage, is_last}
-use Rattle.al_http.specs.Streams.{GoOn, HasGiven, IsWhole, request_limit}
+use Rattle.al_http.specs.Streams.{HasGiven, IsWhole, request_limit}
 use Rattle.al_http.specs.Streams as endings
-use Rattle.al_model.specs.declared.entry.Entry.{Entry}
-use Rattle.alarmd.specs.Exchanges.{Answers, Turn, IsTurn, IsExchange}
+use Rattle.al_http.specs.Services.{Answers}
+use Rattle.al_model.specs.declared.kept.Mark.{Mark}
+use Rattle.alarmd.specs.Exchanges.{Turn, IsTurn, IsExchange}
 use Rattle.alarmd.specs.Conversations.{Outside, requests_of, readings_of, text_of, texts_from, texts_of, rejection_text, Gave, GaveKnown, BeginsWith, TurnsGoOn, AppendsInto, IsConversation, TakesTurn, TellsRejection, EndsAtStop}
 
 -- readings, and then one more
@@ -36,10 +37,10 @@ gave_known_more (Some old) readings (Some mid) reading None so_far one = absurd 
 gave_known_more (Some old) readings (Some mid) reading (Some new) so_far one = gave_more old readings mid reading new so_far one
 
 -- an exchange, and then one more turn
-exchange_more : (answers : Answers) (origin : ℕ) (before : List Entry) (turns : List Turn) (mid : List Entry) (turn : Turn) (after : List Entry) → IsExchange answers origin before turns mid → IsTurn answers origin mid turn → after ≡ mid ++ turn.entries → IsExchange answers origin before (turns ++ turn ∷ []) after
-exchange_more answers origin before [] mid turn after so_far taken grown = (rw (← so_far) taken, rw (← so_far) grown)
-exchange_more answers origin before (first ∷ turns) mid turn after so_far taken grown =
-    (so_far.0, exchange_more answers origin (before ++ first.entries) turns mid turn after so_far.1 taken grown)
+exchange_more : (answers : Answers) (origin : ℕ) (before : Mark) (turns : List Turn) (mid : Mark) (turn : Turn) (after : Mark) → IsExchange answers origin before turns mid → IsTurn answers origin mid turn → after ≡ turn.after → IsExchange answers origin before (turns ++ turn ∷ []) after
+exchange_more answers origin before [] mid turn after so_far taken left = (rw (← so_far) taken, left)
+exchange_more answers origin before (first ∷ turns) mid turn after so_far taken left =
+    (so_far.0, exchange_more answers origin first.after turns mid turn after so_far.1 taken left)
 
 -- the texts of turns, and then of one more
 texts_more : (number : ℕ) (turns : List Turn) (turn : Turn) → texts_from number (turns ++ turn ∷ []) ≡ texts_from number turns ++ text_of (number + length turns) turn
@@ -49,7 +50,7 @@ texts_more number (first ∷ turns) turn =
     rw (next, texts_more (number + 1) turns turn) (sym (append_assoc (text_of number first) (texts_from (number + 1) turns) (text_of (number + 1 + length turns) turn)))
 
 -- A conversation so far: what has come of it since it began, and what is left of its input.
-pub record SoFar (answers : Answers) (origin : ℕ) (before after : List Entry) (input left : Option (List ℕ)) (outside : Outside) (count : ℕ) : Type 0 where
+pub record SoFar (answers : Answers) (origin : ℕ) (before after : Mark) (input left : Option (List ℕ)) (outside : Outside) (count : ℕ) : Type 0 where
   pub turns : List Turn
   pub exchange : IsExchange answers origin before turns after
   pub requests : HasGiven input (requests_of turns) left
@@ -84,13 +85,13 @@ text_is turns turn count counted =
     texts_more 1 turns turn ∙ ap (λ n. texts_of turns ++ text_of n turn) number
 
 -- a turn whose response was written
-pub so_far_more : (answers : Answers) (origin : ℕ) (before mid after : List Entry) (input left new_left : Option (List ℕ)) (first second : Outside) (count : ℕ) (request : HttpRequest) → Follows first second
+pub so_far_more : (answers : Answers) (origin : ℕ) (before mid after : Mark) (input left new_left : Option (List ℕ)) (first second : Outside) (count : ℕ) (request : HttpRequest) → Follows first second
     → SoFar answers origin before mid input left first count → Moves left new_left (Ok (Some request)) → is_last (message_of request) ≡ false → TakesTurn answers origin mid after (message_of request) second (count + 1) {E = WriteFault} (Ok false)
     → SoFar answers origin before after input new_left (both first second) (count + 1)
 so_far_more answers origin before mid after input left new_left first second count request follows s moves other t =
     record {
       turns = s.turns ++ t.turn ∷ [];
-      exchange = exchange_more answers origin before s.turns mid t.turn after s.exchange t.taken t.grown;
+      exchange = exchange_more answers origin before s.turns mid t.turn after s.exchange t.taken t.left;
       requests = given_turn input left new_left s.turns t.turn request s.requests moves t.request_is;
       go_on = rw (map-append (λ (u : Turn). u.request) s.turns (t.turn ∷ [])) (go_on_more (requests_of s.turns) t.turn.request s.go_on (rw t.request_is other));
       responses = rw (text_is s.turns t.turn count s.counted) (appends_more first.old_output first.new_output second.new_output (texts_of s.turns) (text_of (count + 1) t.turn) s.responses (rw follows.output t.response));
@@ -109,14 +110,14 @@ into : (a b c : Option (List ℕ)) (first second : List ℕ) → Appends a b fir
 into a b c first second whole (count, front) = (count, appends_more a b c first (take count second) whole front)
 
 -- a turn whose response the sink didn't take whole
-pub ends_by_write_fault : (answers : Answers) (origin : ℕ) (before mid after : List Entry) (input left new_left : Option (List ℕ)) (first second : Outside) (count : ℕ) (request : HttpRequest) (fault : WriteFault) → Follows first second
+pub ends_by_write_fault : (answers : Answers) (origin : ℕ) (before mid after : Mark) (input left new_left : Option (List ℕ)) (first second : Outside) (count : ℕ) (request : HttpRequest) (fault : WriteFault) → Follows first second
     → SoFar answers origin before mid input left first count → Moves left new_left (Ok (Some request)) → TakesTurn answers origin mid after (message_of request) second (count + 1) {E = WriteFault} (Err fault)
     → IsConversation answers origin before after input (both first second) causes.WriteFault
 ends_by_write_fault answers origin before mid after input left new_left first second count request fault follows s moves t =
     let number : length (s.turns ++ t.turn ∷ []) ≡ count + 1 = omega (arith, length-append s.turns (t.turn ∷ []), s.counted) in
     record {
       turns = s.turns ++ t.turn ∷ [];
-      exchange = exchange_more answers origin before s.turns mid t.turn after s.exchange t.taken t.grown;
+      exchange = exchange_more answers origin before s.turns mid t.turn after s.exchange t.taken t.left;
       ends = inl (record {
         earlier = s.turns;
         last = t.turn;
@@ -132,18 +133,18 @@ few_requests : (turns : List Turn) (count : ℕ) → length turns ≡ count → 
 few_requests turns count counted few = rw (length-map turns (λ (t : Turn). t.request), counted) few
 
 -- a read failed
-pub ends_by_read_fault : (answers : Answers) (origin : ℕ) (before after : List Entry) (input left : Option (List ℕ)) (outside : Outside) (count : ℕ) → SoFar answers origin before after input left outside count
+pub ends_by_read_fault : (answers : Answers) (origin : ℕ) (before after : Mark) (input left : Option (List ℕ)) (outside : Outside) (count : ℕ) → SoFar answers origin before after input left outside count
     → IsConversation answers origin before after input outside causes.ReadFault
 ends_by_read_fault answers origin before after input left outside count s =
     record { turns = s.turns; exchange = s.exchange; ends = (begins_with input left (requests_of s.turns) s.requests, s.go_on, s.responses); readings = s.readings }
 
 -- the last request was answered
-pub ends_by_limit : (answers : Answers) (origin : ℕ) (before after : List Entry) (input left : Option (List ℕ)) (outside : Outside) (count : ℕ) → SoFar answers origin before after input left outside count → count ≡ request_limit
+pub ends_by_limit : (answers : Answers) (origin : ℕ) (before after : Mark) (input left : Option (List ℕ)) (outside : Outside) (count : ℕ) → SoFar answers origin before after input left outside count → count ≡ request_limit
     → IsConversation answers origin before after input outside causes.Limit
 ends_by_limit answers origin before after input left outside count s full =
     record { turns = s.turns; exchange = s.exchange; ends = (ends_limit input left (requests_of s.turns) s.requests s.go_on (length-map s.turns (λ (t : Turn). t.request) ∙ s.counted ∙ full), s.responses); readings = s.readings }
 
-module _ (answers : Answers) (origin : ℕ) (before after : List Entry) (input left new_left : Option (List ℕ)) (outside : Outside) (count : ℕ) where
+module _ (answers : Answers) (origin : ℕ) (before after : Mark) (input left new_left : Option (List ℕ)) (outside : Outside) (count : ℕ) where
   -- the input ends
   pub ends_by_end : SoFar answers origin before after input left outside count → count < request_limit → Moves left new_left (Ok None) → IsConversation answers origin before after input outside causes.Ended
   ends_by_end s few moves =
@@ -159,7 +160,7 @@ module _ (answers : Answers) (origin : ℕ) (before after : List Entry) (input l
   ends_by_cut s few moves =
       record { turns = s.turns; exchange = s.exchange; ends = (at_stop stops.Cut endings.Cut s few moves refl, s.responses); readings = s.readings }
 
-module _ (answers : Answers) (origin : ℕ) (before after : List Entry) (input left new_left : Option (List ℕ)) (outside : Outside) (count : ℕ) (output : Option (List ℕ)) where
+module _ (answers : Answers) (origin : ℕ) (before after : Mark) (input left new_left : Option (List ℕ)) (outside : Outside) (count : ℕ) (output : Option (List ℕ)) where
   -- the outside, with what was told at the end
   abbrev pub told_outside : Outside
   told_outside =
@@ -188,7 +189,7 @@ module _ (answers : Answers) (origin : ℕ) (before after : List Entry) (input l
   ends_by_stop stops.Unimplemented cause s few moves told = ends_by_rejection stops.Unimplemented Unimplemented cause refl s few moves told
 
 -- a request that is last was answered
-pub ends_by_close : (answers : Answers) (origin : ℕ) (before mid after : List Entry) (input left new_left : Option (List ℕ)) (first second : Outside) (count : ℕ) (request : HttpRequest) → Follows first second
+pub ends_by_close : (answers : Answers) (origin : ℕ) (before mid after : Mark) (input left new_left : Option (List ℕ)) (first second : Outside) (count : ℕ) (request : HttpRequest) → Follows first second
     → SoFar answers origin before mid input left first count → count < request_limit → Moves left new_left (Ok (Some request)) → is_last (message_of request) ≡ true → TakesTurn answers origin mid after (message_of request) second (count + 1) {E = WriteFault} (Ok true)
     → IsConversation answers origin before after input (both first second) causes.Closed
 ends_by_close answers origin before mid after input left new_left first second count request follows s few moves last t =
@@ -197,7 +198,7 @@ ends_by_close answers origin before mid after input left new_left first second c
     let whole = ends_closed input new_left (requests_of s.turns) t.turn.request (rw more at given) s.go_on (rw t.request_is last) (few_requests s.turns count s.counted few) in
     record {
       turns = s.turns ++ t.turn ∷ [];
-      exchange = exchange_more answers origin before s.turns mid t.turn after s.exchange t.taken t.grown;
+      exchange = exchange_more answers origin before s.turns mid t.turn after s.exchange t.taken t.left;
       ends = (rw more whole, rw (text_is s.turns t.turn count s.counted) (appends_more first.old_output first.new_output second.new_output (texts_of s.turns) (text_of (count + 1) t.turn) s.responses (rw follows.output t.response)));
       readings = gave_turn first.old_clock first.new_clock second.new_clock s.turns t.turn s.readings (rw follows.clock t.reading);
     }

@@ -2,7 +2,8 @@
 use Rattle.std.specs.Prelude.{◌≡◌, ◌⊎◌, ℕ, ◌+◌, ◌==◌, ◌||◌, Option, Some, None, IfSome, List, [], ◌∷◌, ◌++◌, length, map, take, Bool, true, ⊤, Result, MatchResult}
 use Rattle.std.specs.Io.KnownBytes.{Appends}
 use Rattle.al_base.specs.Readings.{Readings, next_reading, after_reading}
-use Rattle.al_model.specs.declared.entry.Entry.{Entry}
+use Rattle.al_http.specs.Services.{Answers}
+use Rattle.al_model.specs.declared.kept.Mark.{Mark}
 use Rattle.al_http.specs.Fronts.{AppendsFront}
 use Rattle.al_http.specs.Requests.{RequestMessage, is_last}
 use Rattle.al_http.specs.Responses.{response_text, rejection_response}
@@ -12,7 +13,7 @@ use Rattle.al_http.specs.declared.framer.Stop.{Stop}
 use Rattle.al_http.specs.declared.framer.Stop.TheVariants as stops
 use Rattle.al_http.specs.declared.rejection.Rejection.{Rejection}
 use Rattle.al_http.specs.declared.rejection.Rejection.TheVariants.{Bad, HeadTooBig, BodyTooBig, Unimplemented}
-use Rattle.alarmd.specs.Exchanges.{Answers, Turn, IsTurn, IsExchange}
+use Rattle.alarmd.specs.Exchanges.{Turn, IsTurn, IsExchange}
 use Rattle.alarmd.specs.declared.conversation.Cause.{Cause}
 use Rattle.alarmd.specs.declared.conversation.Cause.TheVariants.{Ended, Closed, Limit, Cut, Rejected, ReadFault, WriteFault}
 
@@ -100,17 +101,17 @@ EndsBy ReadFault input old new turns = BeginsWith input (requests_of turns) × T
 EndsBy WriteFault input old new turns = FailsInResponse input old new turns ⊎ FailsInRejection input old new turns
 
 -- A conversation of one origin over an input, from one history to another.
-pub record IsConversation (answers : Answers) (origin : ℕ) (before after : List Entry) (input : Option (List ℕ)) (outside : Outside) (cause : Cause) : Type 0 where
+pub record IsConversation (answers : Answers) (origin : ℕ) (before after : Mark) (input : Option (List ℕ)) (outside : Outside) (cause : Cause) : Type 0 where
   pub turns : List Turn
   pub exchange : IsExchange answers origin before turns after
   pub ends : EndsBy cause input outside.old_output outside.new_output turns
   pub readings : GaveKnown outside.old_clock (readings_of turns) outside.new_clock
 
 -- One turn over a sink and a clock. A fault of the sink leaves a front of the response.
-pub record TakesTurn (answers : Answers) (origin : ℕ) (before after : List Entry) (request : RequestMessage) (outside : Outside) (number : ℕ) {E : Type 0} (result : Result Bool E) : Type 0 where
+pub record TakesTurn (answers : Answers) (origin : ℕ) (before after : Mark) (request : RequestMessage) (outside : Outside) (number : ℕ) {E : Type 0} (result : Result Bool E) : Type 0 where
   pub turn : Turn
   pub taken : IsTurn answers origin before turn
-  pub grown : after ≡ before ++ turn.entries
+  pub left : after ≡ turn.after
   pub request_is : turn.request ≡ request
   pub response : MatchResult result (λ _. Appends outside.old_output outside.new_output (text_of number turn)) (λ _. AppendsFront outside.old_output outside.new_output (text_of number turn))
   pub reading : GaveKnown outside.old_clock (turn.reading ∷ []) outside.new_clock

@@ -1,12 +1,12 @@
--- A session: one conversation over a history that begins with an inventory, and the status that tells how it ended.
-use Rattle.std.specs.Prelude.{◌≡◌, ◌⊎◌, ℕ, Option, List}
+-- A session: one conversation over a history that begins empty, and the status that tells how it ended.
+use Rattle.std.specs.Prelude.{◌≡◌, ◌⊎◌, ℕ, Option, List, []}
 use Rattle.std.specs.Io.KnownBytes.{Appends}
-use Rattle.al_model.specs.declared.entry.Entry.{Entry}
 use Rattle.al_model.specs.History.{IsLegal}
+use Rattle.al_model.specs.declared.kept.Mark.{Mark}
+use Rattle.al_office.specs.Office.{mark_of}
+use Rattle.al_restconf.specs.Machine.{IsAnswer}
 use Rattle.alarmd.specs.Conversations.{Outside, IsConversation}
 use Rattle.al_http.specs.Fronts.{AppendsFront}
-use Rattle.alarmd.specs.Links.{link_history}
-use Rattle.alarmd.specs.Machine.{IsAnswer}
 use Rattle.alarmd.specs.Words.{usage_line}
 use Rattle.alarmd.specs.declared.conversation.Cause.{Cause}
 use Rattle.alarmd.specs.declared.conversation.Cause.TheVariants.{Ended, Closed, Limit, Cut, Rejected, ReadFault, WriteFault}
@@ -47,14 +47,17 @@ status_of WriteFault = status_write_fault
 abbrev pub session_origin : ℕ
 session_origin = 0
 
--- The input was answered by the machine over a history that began with the inventory of the one type and is legal, and the status
--- tells how it ended.
+-- what a session begins with: an empty history
+abbrev pub empty_mark : Mark
+empty_mark = mark_of (record { entries = [] })
+
+-- The input was answered by the machine of the resources over a history that began empty and is legal, and the status tells how it ended.
 pub record HasConversed (input : Option (List ℕ)) (outside : Outside) (status : ℕ) : Type 0 where
   pub cause : Cause
   pub status_is : status ≡ status_of cause
-  pub history : List Entry
-  pub legal : IsLegal history
-  pub conversation : IsConversation IsAnswer session_origin link_history history input outside cause
+  pub after : Mark
+  pub legal : IsLegal after.entries
+  pub conversation : IsConversation IsAnswer session_origin empty_mark after input outside cause
 
 -- There was no memory to begin: nothing was read or written.
 pub record HasNotBegun {S O K : Type 0} (old_source new_source : S) (old_sink new_sink : O) (old_clock new_clock : K) (status : ℕ) : Type 0 where

@@ -8,9 +8,8 @@ ghost use Rattle.al_http.specs.Shown.{message_of};
 ghost use Rattle.alarmd.specs.Conversations.{IsConversation, TakesTurn, TellsRejection, EndsAtStop};
 ghost use Rattle.alarmd.specs.Exchanges.{GivesTurn};
 
-use crate::service::Service;
 use al_base::{Clock, Sink, Source, Stamp, WriteFault};
-use al_http::{Framer, HttpRequest, REQUEST_LIMIT, Rejection, Response, Stop, respond};
+use al_http::{Framer, HttpRequest, REQUEST_LIMIT, Rejection, Response, Service, Stop, respond};
 use al_model::Kept;
 
 /// Why a conversation ended.
@@ -42,7 +41,7 @@ pub fn converse<T: Kept, V: Service<T>, S: Source, O: Sink, K: Clock>(
     sink: &mut O,
     clock: &mut K,
 ) -> Cause
-    ensures conversation { IsConversation (V.answers service.old) origin (T.mark kept.old).entries (T.mark kept.new).entries (S.left source.old)
+    ensures conversation { IsConversation (V.answers service.old) origin (T.mark kept.old) (T.mark kept.new) (S.left source.old)
         (record { old_output = O.held sink.old; new_output = O.held sink.new; old_clock = K.readings clock.old; new_clock = K.readings clock.new }) result }
     ensures read_fault { result ≡ Cause.ReadFault → Rose (S.faults source.old) (S.faults source.new) }
     ensures write_fault { result ≡ Cause.WriteFault → Rose (O.faults sink.old) (O.faults sink.new) }
@@ -76,7 +75,7 @@ fn take_turn<T: Kept, V: Service<T>, O: Sink, K: Clock>(
     clock: &mut K,
     number: u64,
 ) -> Result<bool, WriteFault>
-    ensures turn { TakesTurn (V.answers service.old) origin (T.mark kept.old).entries (T.mark kept.new).entries (message_of request.now)
+    ensures turn { TakesTurn (V.answers service.old) origin (T.mark kept.old) (T.mark kept.new) (message_of request.now)
         (record { old_output = O.held sink.old; new_output = O.held sink.new; old_clock = K.readings clock.old; new_clock = K.readings clock.new }) number result }
     ensures last { IfOk result (λ last. last ≡ is_last (message_of request.now)) }
     ensures same { service.new ≡ service.old }
@@ -100,7 +99,7 @@ fn answer<T: Kept, V: Service<T>>(
     request: &HttpRequest,
     now: Stamp,
 ) -> Response
-    ensures turn { GivesTurn (V.answers service.old) origin (T.mark kept.old).entries (T.mark kept.new).entries (message_of request.now) now result }
+    ensures turn { GivesTurn (V.answers service.old) origin (T.mark kept.old) (T.mark kept.new) (message_of request.now) now result }
     ensures text { HasText result }
     ensures same { service.new ≡ service.old }
 {

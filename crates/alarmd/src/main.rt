@@ -3,11 +3,7 @@
 
 mod command;
 mod conversation;
-mod links;
-mod machine;
 mod program;
-mod report;
-mod service;
 
 use al_base::{Reading, SystemClock, Text, TextFault, Writing};
 use program::run;

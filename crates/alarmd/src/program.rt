@@ -7,10 +7,10 @@ ghost use Rattle.alarmd.specs.Words.{IsSession};
 
 use crate::command::Command;
 use crate::conversation::{Cause, converse};
-use crate::links;
-use crate::machine::Machine;
 use al_base::{Clock, Sink, Source, Text};
 use al_http::{Framer, write_all};
+use al_office::Office;
+use al_restconf::Restconf;
 use std::alloc::Global;
 
 /// The words are no row of the usage line.
@@ -59,7 +59,7 @@ pub fn run<S: Source, O: Sink, K: Clock>(
     }
 }
 
-/// Answers the requests of the source over a history that begins with the inventory of the one type.
+/// Answers the requests of the source over a history that begins empty.
 fn run_session<S: Source, O: Sink, K: Clock>(
     alloc: Global,
     source: &mut S,
@@ -76,13 +76,13 @@ fn run_session<S: Source, O: Sink, K: Clock>(
     let Ok(mut framer) = Framer::new(alloc) else {
         return OUT_OF_MEMORY;
     };
-    let Ok(mut office) = links::start(alloc) else {
+    let Ok(mut office) = Office::start(alloc) else {
         return OUT_OF_MEMORY;
     };
-    let mut machine = Machine::new(alloc);
+    let mut restconf = Restconf::new(alloc);
     let cause = converse(
         &mut office,
-        &mut machine,
+        &mut restconf,
         &mut framer,
         SESSION_ORIGIN,
         source,
