@@ -48,10 +48,12 @@ fn reads_type(alloc: Global, bytes: &[u8], good: bool) -> bool {
 #[test]
 fn reads_texts_and_type_ids(rt: HostRuntime) {
     let alloc = rt.alloc();
-    let wrong = |(bytes, good): &(&[u8], bool)| !reads_text(alloc, bytes, *good);
-    assert_eq!(rt; TEXTS.iter().position(wrong), None);
-    let wrong = |(bytes, good): &(&[u8], bool)| !reads_type(alloc, bytes, *good);
-    assert_eq!(rt; TYPES.iter().position(wrong), None);
+    for (bytes, good) in &TEXTS {
+        assert!(rt; reads_text(alloc, bytes, *good));
+    }
+    for (bytes, good) in &TYPES {
+        assert!(rt; reads_type(alloc, bytes, *good));
+    }
     let mut long = [b'x'; 129];
     long[1] = b':';
     assert!(rt; reads_type(alloc, &long[..128], true));
@@ -94,13 +96,13 @@ fn prints(ms: u64, text: &[u8]) -> bool {
 
 #[test]
 fn prints_and_reads_stamps(rt: HostRuntime) {
-    let wrong = |(ms, text): &(u64, &[u8])| !prints(*ms, text);
-    assert_eq!(rt; STAMPS.iter().position(wrong), None);
-    assert_eq!(rt; Stamp::of(253_402_300_800_000), None);
-    let read = NO_STAMPS
-        .iter()
-        .position(|text| Stamp::read(text).is_some());
-    assert_eq!(rt; read, None);
+    for (ms, text) in &STAMPS {
+        assert!(rt; prints(*ms, text));
+    }
+    for text in &NO_STAMPS {
+        assert!(rt; Stamp::read(text).is_none());
+    }
+    assert!(rt; Stamp::of(253_402_300_800_000).is_none());
 }
 
 #[test]
@@ -115,7 +117,10 @@ fn names_values(rt: HostRuntime) {
 
 /// Whether a copy equals what it copies, and another value doesn't.
 fn copies<T: Copied + Eq>(alloc: Global, value: &T, other: &T) -> bool {
-    value.copy(alloc).is_ok_and(|copy| copy == *value) && value != other
+    match value.copy(alloc) {
+        Ok(copy) => copy == *value && value != other,
+        Err(_) => false,
+    }
 }
 
 /// The list of so many equal stamps.

@@ -1,7 +1,7 @@
 //! Cases of the crates of the vocabulary, patterns and matches, whose answers were worked out by hand.
 //!
 //! It has tests alone. They stand here, and not beside the code, since a crate with tests is proved twice. Each walks
-//! tables, and where a row is answered otherwise it tells that row's place.
+//! tables, with one assertion for a row.
 #![tactic(auto)]
 
 #[cfg(test)]

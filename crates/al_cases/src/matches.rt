@@ -98,16 +98,14 @@ fn takes(alloc: Global, text: &str, name: &str, taken: bool) -> bool {
 
 #[test]
 fn takes_resources_of_its_kind(rt: HostRuntime) {
-    let alloc = rt.alloc();
-    let wrong = |(text, name, taken): &(&str, &str, bool)| !takes(alloc, text, name, *taken);
-    assert_eq!(rt; TAKES.iter().position(wrong), None);
+    for (text, name, taken) in &TAKES {
+        assert!(rt; takes(rt.alloc(), text, name, *taken));
+    }
 }
 
 #[test]
 fn tells_the_first_fault(rt: HostRuntime) {
-    let alloc = rt.alloc();
-    let wrong = |(text, fault): &(&[u8], MatchFault)| {
-        ResourceMatch::read(alloc, text).err() != Some(*fault)
-    };
-    assert_eq!(rt; FAULTS.iter().position(wrong), None);
+    for (text, fault) in &FAULTS {
+        assert!(rt; ResourceMatch::read(rt.alloc(), text).err() == Some(*fault));
+    }
 }

@@ -4,7 +4,7 @@ use al_pattern::{Pattern, PatternFault};
 use std::alloc::{AllocError, Global};
 
 /// Patterns, texts, and whether the whole text is taken.
-const TEXTS: [(&str, &str, bool); 44] = [
+const TEXTS: [(&str, &str, bool); 45] = [
     ("(eth|lag)[0-9]+", "eth12", true),
     ("(eth|lag)[0-9]+", "eth", false),
     ("(eth|lag)[0-9]+", "xeth1", false),
@@ -49,6 +49,12 @@ const TEXTS: [(&str, &str, bool); 44] = [
     ("\\.", "x", false),
     ("^a$", "^a$", true),
     ("[\\[-\\]]", "\\", true),
+    // no pattern is slow
+    (
+        "(a*)*b",
+        "aaaaaaaaaaaaaaaaaaaaaaaaaaaaaaaaaaaaaaaaaaaaaaaaaaaaaaaaaaaaaaaa",
+        false,
+    ),
 ];
 
 /// Texts that are no patterns, with the fault.
@@ -146,9 +152,9 @@ fn text_of(alloc: Global, parts: &[(&str, usize)]) -> Result<Vec<u8>, AllocError
 }
 
 /// Whether the text is a pattern that takes the other one or doesn't, as wanted.
-fn takes(alloc: Global, pattern: &str, text: &[u8], want: bool) -> bool {
+fn takes(alloc: Global, pattern: &str, text: &str, want: bool) -> bool {
     match Pattern::read(alloc, pattern.as_bytes()) {
-        Ok(pattern) => pattern.matches(text) == want,
+        Ok(pattern) => pattern.matches(text.as_bytes()) == want,
         Err(_) => false,
     }
 }
@@ -159,31 +165,25 @@ fn fault_of(alloc: Global, text: &[u8]) -> Option<PatternFault> {
 
 #[test]
 fn takes_whole_texts(rt: HostRuntime) {
-    let alloc = rt.alloc();
-    let wrong = |(pattern, text, want): &(&str, &str, bool)| !takes(
-        alloc,
-        pattern,
-        text.as_bytes(),
-        *want,
-    );
-    assert_eq!(rt; TEXTS.iter().position(wrong), None);
-    // no pattern is slow
-    assert!(rt; takes(alloc, "(a*)*b", &[b'a'; 255], false));
+    for (pattern, text, want) in &TEXTS {
+        assert!(rt; takes(rt.alloc(), pattern, text, *want));
+    }
 }
 
 /// Whether three parts of a text, each so often, make a text of this fault.
 fn is_limit(alloc: Global, parts: &[(&str, usize)], fault: Option<PatternFault>) -> bool {
-    text_of(alloc, parts).is_ok_and(|text| fault_of(alloc, &text) == fault)
+    match text_of(alloc, parts) {
+        Ok(text) => fault_of(alloc, &text) == fault,
+        Err(_) => false,
+    }
 }
 
 #[test]
 fn faults_at_their_places(rt: HostRuntime) {
-    let alloc = rt.alloc();
-    let wrong = |(text, fault): &(&str, PatternFault)| fault_of(alloc, text.as_bytes())
-        != Some(*fault);
-    assert_eq!(rt; FAULTS.iter().position(wrong), None);
-    let wrong = |(parts, fault): &([(&str, usize); 3], Option<PatternFault>)| !is_limit(
-        alloc, parts, *fault,
-    );
-    assert_eq!(rt; LIMITS.iter().position(wrong), None);
+    for (text, fault) in &FAULTS {
+        assert!(rt; fault_of(rt.alloc(), text.as_bytes()) == Some(*fault));
+    }
+    for (parts, fault) in &LIMITS {
+        assert!(rt; is_limit(rt.alloc(), parts, *fault));
+    }
 }

@@ -30,13 +30,18 @@ const KINDS: [(&str, Kind); 22] = [
     ("1.3.", Kind::Plain),
 ];
 
+fn is_of(alloc: Global, text: &str, kind: Kind) -> bool {
+    match Resource::read(alloc, text.as_bytes()) {
+        Ok(resource) => resource.kind() == kind,
+        Err(_) => false,
+    }
+}
+
 #[test]
 fn tells_kinds_apart(rt: HostRuntime) {
-    let alloc = rt.alloc();
-    let wrong = |(text, kind): &(&str, Kind)| {
-        !Resource::read(alloc, text.as_bytes()).is_ok_and(|resource| resource.kind() == *kind)
-    };
-    assert_eq!(rt; KINDS.iter().position(wrong), None);
+    for (text, kind) in &KINDS {
+        assert!(rt; is_of(rt.alloc(), text, *kind));
+    }
 }
 
 /// Bytes that are no resource, with the fault.
@@ -49,10 +54,9 @@ const FAULTS: [(&[u8], ResourceFault); 4] = [
 
 #[test]
 fn refuses_in_order(rt: HostRuntime) {
-    let alloc = rt.alloc();
-    let wrong = |(text, fault): &(&[u8], ResourceFault)| Resource::read(alloc, text).err()
-        != Some(*fault);
-    assert_eq!(rt; FAULTS.iter().position(wrong), None);
+    for (text, fault) in &FAULTS {
+        assert!(rt; Resource::read(rt.alloc(), text).err() == Some(*fault));
+    }
 }
 
 /// Keys in rising order.
@@ -72,23 +76,25 @@ fn key(alloc: Global, [resource, type_id, qualifier]: &[&str; 3]) -> Option<Alar
     })
 }
 
-/// Whether the two are keys, which stand as their places do.
+/// Whether the two are keys, which stand as their places do, and a copy is equal.
 fn stand(alloc: Global, place: usize, later: usize) -> bool {
     match (
         key(alloc, &RISING[place % 5]),
         key(alloc, &RISING[later % 5]),
     ) {
-        (Some(this), Some(other)) => this.cmp(&other) == place.cmp(&later),
+        (Some(this), Some(other)) => match this.copy(alloc) {
+            Ok(copy) => copy == this && copy.cmp(&other) == place.cmp(&later),
+            Err(_) => false,
+        },
         _ => false,
     }
 }
 
 #[test]
 fn orders_keys(rt: HostRuntime) {
-    let alloc = rt.alloc();
-    assert!(rt; (0..5).all(|place| (0..5).all(|later| stand(alloc, place, later))));
-    let copied = |names: &[&str; 3]| {
-        key(alloc, names).is_some_and(|key| key.copy(alloc).is_ok_and(|copy| copy == key))
-    };
-    assert!(rt; RISING.iter().all(copied));
+    for place in 0..5 {
+        for later in 0..5 {
+            assert!(rt; stand(rt.alloc(), place, later));
+        }
+    }
 }

@@ -26,15 +26,18 @@ fn row(alloc: Global, type_id: &str, qualifier: &str, severities: u8) -> Result<
     })
 }
 
-/// The inventory of these names and bases, and of so many equal rows; or its fault.
+/// The inventory of these names and bases, so many times, and of so many equal rows; or its fault.
 fn build(
     alloc: Global,
     pairs: &[(&str, &str)],
+    times: usize,
     count: usize,
 ) -> Result<Result<Inventory, InventoryFault>, Fail> {
     let mut identities = Vec::new(alloc);
-    for (name, base) in pairs {
-        identities.push(identity(alloc, name, base)?)?;
+    for _ in 0..times {
+        for (name, base) in pairs {
+            identities.push(identity(alloc, name, base)?)?;
+        }
     }
     let mut rows = Vec::new(alloc);
     for _ in 0..count {
@@ -43,43 +46,48 @@ fn build(
     Ok(Inventory::build(alloc, identities, rows))
 }
 
-/// Names and bases, how many equal rows, and the fault if they have one.
-const BUILT: [(&[(&str, &str)], usize, Option<InventoryFault>); 9] = [
+/// Names and bases, how often they stand there, how many equal rows, and the fault if they have one.
+const BUILT: [(&[(&str, &str)], usize, usize, Option<InventoryFault>); 9] = [
     (
         &[("ex:a", "ex:b"), ("ex:b", ROOT)],
+        1,
         2,
         Some(InventoryFault::UnknownBase(0)),
     ),
     (
         &[(ROOT, ROOT), ("ex:a", ROOT)],
+        1,
         2,
         Some(InventoryFault::DuplicateIdentity(0)),
     ),
     (
         &[("ex:a", "ex:b"), ("ex:a", ROOT)],
+        1,
         2,
         Some(InventoryFault::DuplicateIdentity(1)),
     ),
     (
         &[("ex:b", ROOT), ("ex:a", "ex:a")],
+        1,
         2,
         Some(InventoryFault::UnknownBase(1)),
     ),
-    (&[], 1, None),
-    (&[], 2, Some(InventoryFault::DuplicateRow(1))),
-    (&[], 2001, Some(InventoryFault::TooMany)),
+    (&[], 0, 1, None),
+    (&[], 0, 2, Some(InventoryFault::DuplicateRow(1))),
+    (&[], 0, 2001, Some(InventoryFault::TooMany)),
     (
-        &[("ex:a", ROOT); 2000],
+        &[("ex:a", ROOT)],
+        2000,
         0,
         Some(InventoryFault::DuplicateIdentity(1)),
     ),
-    (&[("ex:a", ROOT); 2001], 0, Some(InventoryFault::TooMany)),
+    (&[("ex:a", ROOT)], 2001, 0, Some(InventoryFault::TooMany)),
 ];
 
 #[test]
 fn refuses_what_is_no_inventory(rt: HostRuntime) -> Result<(), Fail> {
-    for (pairs, count, fault) in &BUILT {
-        assert_eq!(rt; build(rt.alloc(), pairs, *count)?.err(), *fault);
+    for (pairs, times, count, fault) in &BUILT {
+        assert_eq!(rt; build(rt.alloc(), pairs, *times, *count)?.err(), *fault);
     }
     Ok(())
 }
@@ -104,7 +112,7 @@ const BASES: [(&str, &str, bool, bool); 7] = [
 #[test]
 fn follows_bases(rt: HostRuntime) -> Result<(), Fail> {
     let alloc = rt.alloc();
-    let two = build(alloc, &[("ex:b", ROOT), ("ex:c", "ex:b")], 0)??;
+    let two = build(alloc, &[("ex:b", ROOT), ("ex:c", "ex:b")], 1, 0)??;
     let none = Inventory::empty(alloc);
     for (name, base, in_two, in_none) in &BASES {
         assert_eq!(rt; derives(alloc, &two, name, base)?, *in_two);
@@ -122,7 +130,7 @@ fn finds(alloc: Global, inventory: &Inventory, name: &str, qualifier: &str) -> R
 #[test]
 fn finds_rows(rt: HostRuntime) -> Result<(), Fail> {
     let alloc = rt.alloc();
-    let inventory = build(alloc, &[], 1)??;
+    let inventory = build(alloc, &[], 0, 1)??;
     assert!(rt; finds(alloc, &inventory, "ex:a", "q")?);
     assert!(rt; !finds(alloc, &inventory, "ex:a", "r")?);
     assert!(rt; !finds(alloc, &inventory, "ex:b", "q")?);
