@@ -11,7 +11,7 @@ weaker_moments P R so [] each = tt
 weaker_moments P R so (m ∷ moments) each = (λ image left. so image (each.0 image left), weaker_moments P R so moments each.1)
 
 pub weaker_since : (P R : List ℕ → Type 0) → ((image : List ℕ) → P image → R image) → (earlier : List Moment) (s : DiskState) → SinceMoments P earlier s → SinceMoments R earlier s
-weaker_since P R so earlier s since = record { moments = since.moments; are = since.are; each = weaker_moments P R so since.moments since.each }
+weaker_since P R so earlier s since = record { moments = since.moments; are = since.are; later = since.later; each = weaker_moments P R so since.moments since.each }
 
 both_moments : (P : List ℕ → Type 0) (later moments : List Moment) → AllLeaveOnly P later → AllLeaveOnly P moments → AllLeaveOnly P (later ++ moments)
 both_moments P [] moments first second = second
@@ -22,6 +22,7 @@ pub one_earlier : (P : List ℕ → Type 0) (m : Moment) (earlier : List Moment)
 one_earlier P m earlier s leaves since = record {
   moments = since.moments ++ m ∷ [];
   are = since.are ∙ sym (append_assoc since.moments (m ∷ []) earlier);
+  later = omega (arith, since.later);
   each = both_moments P since.moments (m ∷ []) since.each (leaves, tt);
 }
 
@@ -30,6 +31,7 @@ pub one_later : (P : List ℕ → Type 0) (earlier : List Moment) (s t : DiskSta
 one_later P earlier s t leaves past since = record {
   moments = t.now ∷ since.moments;
   are = ap (λ (l : List Moment). t.now ∷ l) (past ∙ since.are);
+  later = omega (arith, since.later, ap (λ (l : List Moment). length l) past);
   each = (leaves, since.each);
 }
 
@@ -41,6 +43,7 @@ module _ (P : List ℕ → Type 0) (earlier : List Moment) (old new : DiskState)
       record {
         moments = after.moments ++ moments;
         are = after.are ∙ ap (λ (l : List Moment). after.moments ++ l) past ∙ sym (append_assoc after.moments moments earlier);
+        later = omega (arith, fits, after.later);
         each = both_moments P after.moments moments after.each each.1;
       }
 
@@ -49,14 +52,14 @@ module _ (P : List ℕ → Type 0) (earlier : List Moment) (old new : DiskState)
   goes_on fits before after = joined before.moments before.are before.each fits after
 
 -- the same, since a time
-pub since_on : (P : List ℕ → Type 0) (t : ℕ) (old new : DiskState) → t ≤ time old → Since P t old → Between P old new → Since P t new
-since_on P t old new fits before after = (before.0, before.1, goes_on P before.0 old new (omega (arith, before.1)) before.2 after)
+pub since_on : (P : List ℕ → Type 0) (t : ℕ) (old new : DiskState) → Since P t old → Between P old new → Since P t new
+since_on P t old new before after = (before.0, before.1, goes_on P before.0 old new before.2.later before.2 after)
 
 pub begins : (P R : List ℕ → Type 0) (s : DiskState) → P s.content → LeavesOnly P s.now → ((image : List ℕ) → P image → R image) → Has P R s.past s
 begins P R s content images so = record {
   content = content;
   images = images;
-  moments = record { moments = s.now ∷ []; are = refl; each = (λ image left. so image (images image left), tt) };
+  moments = record { moments = s.now ∷ []; are = refl; later = omega arith; each = (λ image left. so image (images image left), tt) };
 }
 
 pub after_sync : (P Q R : List ℕ → Type 0) (earlier : List Moment) (s t : DiskState) → t ≡ synced s → Has P R earlier s → Q s.content → ((image : List ℕ) → Q image → R image) → Has Q R earlier t
@@ -93,5 +96,6 @@ pub synced_since : (s : DiskState) → ReadsAsAnImage s → Between (λ image. M
 synced_since s reads = record {
   moments = (synced s).now ∷ s.now ∷ [];
   are = refl;
+  later = omega arith;
   each = (λ image left. subst (MayLeave s.now) (sym left) reads, (λ image left. left, tt));
 }

@@ -1,5 +1,5 @@
 -- What a crash may have left at every moment of a run of calls.
-use Rattle.std.specs.Prelude.{◌≡◌, ℕ, List, [], ◌∷◌, ◌++◌, length}
+use Rattle.std.specs.Prelude.{◌≡◌, ℕ, ◌≤◌, List, [], ◌∷◌, ◌++◌, length}
 use Rattle.al_disk.specs.Images.{LeavesOnly, Moment}
 use Rattle.al_disk.specs.States.{DiskState}
 
@@ -8,10 +8,11 @@ abbrev pub AllLeaveOnly : (List ℕ → Type 0) → List Moment → Type 0
 AllLeaveOnly P [] = Unit {0}
 AllLeaveOnly P (m ∷ moments) = LeavesOnly P m × AllLeaveOnly P moments
 
--- P holds of each image of every moment after these earlier ones.
+-- P holds of each image of every moment after these earlier ones, all of which are before this one.
 pub record SinceMoments (P : List ℕ → Type 0) (earlier : List Moment) (s : DiskState) : Type 0 where
   pub moments : List Moment
   pub are : s.now ∷ s.past ≡ moments ++ earlier
+  pub later : length earlier ≤ length s.past
   pub each : AllLeaveOnly P moments
 
 -- P holds of each image of every moment from the one state to the other, those of both states included

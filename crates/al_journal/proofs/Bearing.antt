@@ -160,7 +160,7 @@ module _ (capacity : ℕ) (s : DiskState) where
   Left image = MayLeave s.now image ⊎ NoneOrEmpty capacity image
 
   still : SinceMoments Left s.past s
-  still = record { moments = s.now ∷ []; are = refl; each = (λ image left. inl left, tt) }
+  still = record { moments = s.now ∷ []; are = refl; later = omega arith; each = (λ image left. inl left, tt) }
 
   -- nothing was done
   pub not_begun : (t : DiskState) → t ≡ s → Bears capacity (Err Disk) s t
@@ -174,7 +174,7 @@ module _ (capacity : ℕ) (s : DiskState) where
   synced_moments reads = weaker_since (MayLeave s.now) Left (λ image left. inl left) s.past (synced s) (synced_since s reads)
 
   synced_none : IsNoJournal s.content → SinceMoments (NoneOrEmpty capacity) (s.now ∷ s.past) (synced s)
-  synced_none none = record { moments = (synced s).now ∷ []; are = refl; each = (λ image left. inl (subst IsNoJournal (sym left) none), tt) }
+  synced_none none = record { moments = (synced s).now ∷ []; are = refl; later = omega arith; each = (λ image left. inl (subst IsNoJournal (sym left) none), tt) }
 
   pub only_synced : (t : DiskState) → ReadsAsAnImage s → t ≡ synced s → Bears capacity (Err Disk) s t
   only_synced t reads is =

@@ -114,7 +114,7 @@ walk_refused capacity Disk s t syncs walked = inr syncs
 walk_refused capacity Memory s t syncs walked = absurd walked
 
 still : (s : DiskState) → LeavesAsBefore s s
-still s = record { moments = s.now ∷ []; are = refl; each = (λ image left. left, tt) }
+still s = record { moments = s.now ∷ []; are = refl; later = omega arith; each = (λ image left. left, tt) }
 
 pub stays_as_before : (s t : DiskState) → t ≡ s → LeavesAsBefore s t
 stays_as_before s t same = subst (LeavesAsBefore s) (sym same) (still s)
