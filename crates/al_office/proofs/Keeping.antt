@@ -2,7 +2,7 @@
 use Rattle.std.proofs.Common.{◌≡◌, ℕ, ◌+◌, ◌<◌, ◌≤◌, ◌^◌, max, arith, List, [], ◌∷◌, ◌++◌, Result, Ok, Err, refl, ap, sym, ◌∙◌, subst}
 use Rattle.al_base.specs.Limits.{last_stamp}
 use Rattle.al_model.specs.Decision.{decision_of}
-use Rattle.al_model.specs.History.{replay, Fits, IsLegal}
+use Rattle.al_model.specs.History.{replay, Fits}
 use Rattle.al_model.specs.Limits.{IsRequestWithin}
 use Rattle.al_model.specs.State.{State}
 use Rattle.al_shelf.specs.Places.{AreShelves}

@@ -1,2 +1,9 @@
+mod Adding
+mod Changing
+mod Holding
 mod Keeping
 mod Notes
+mod Opening
+mod Frames
+mod Settling
+mod Showing

@@ -1,5 +1,5 @@
 -- Each entry sends one note at most.
-use Rattle.std.proofs.Common.{◌≡◌, ℕ, ◌+◌, ◌≤◌, suc, Option, None, Some, List, [], ◌∷◌, length, refl, ap, sym, ◌∙◌, arith}
+use Rattle.std.proofs.Common.{◌≡◌, ℕ, ◌+◌, ◌≤◌, Option, None, Some, List, [], ◌∷◌, length, refl, ap, arith}
 use Rattle.al_notify.specs.Logs.{LogView}
 use Rattle.al_notify.specs.declared.note.NoteBody.{NoteBody}
 use Rattle.al_model.specs.Events.{set_by}

@@ -1,3 +1,12 @@
+pub mod Changing
 pub mod Decisions
+pub mod Faults
+pub mod Images
+pub mod Journaled
 pub mod Laws
+pub mod Ledger
 pub mod Office
+pub mod Opening
+pub mod Reading
+pub mod Taking
+pub mod Writing

@@ -1,13 +1,9 @@
-ghost use Rattle.al_base.specs.Limits.{last_stamp};
-ghost use Rattle.std.specs.Prelude.{◌≡◌, ◌+◌, ◌<◌, ◌≤◌, max};
-ghost use Rattle.al_office.specs.Decisions.{carried_by};
-
+use crate::deciding::{time_after, to_carry_out};
 use al_base::Stamp;
 use al_lists::Tables;
-use al_model::{Decision, Entry, Event, Kept, Refusal, Reply, Request};
+use al_model::{Entry, Kept, Refusal, Reply, Request};
 use std::alloc::{AllocError, Global};
 use std::marker::Model;
-use std::mem;
 
 /// The history and what is known after it, in memory.
 #[derive(Debug, Drop)]
@@ -131,29 +127,5 @@ impl Kept for Office {
 
     fn entries(&self) -> u64 {
         self.len() as u64
-    }
-}
-
-/// The event that a decision is to be carried out by, and its reply; or what is answered at once.
-fn to_carry_out(mut decision: Decision) -> Result<(Event, Reply), Result<Reply, Refusal>>
-    ensures { result ≡ carried_by decision }
-{
-    match &mut decision {
-        Decision::Refuse(refusal) => Err(Err(*refusal)),
-        Decision::Same(reply) => Err(Ok(*reply)),
-        // The decision is let go with another event in it, so that this one isn't copied.
-        Decision::Change(event, reply) => Ok((mem::replace(event, Event::SetMax(None)), *reply)),
-    }
-}
-
-/// The time of the entry after one of this time: that of the clock, but later than the entry before.
-fn time_after(last: Stamp, now: Stamp) -> Stamp
-    requires { last < last_stamp }
-    ensures time { result ≡ max now (last + 1) }
-    ensures bound { result ≤ last_stamp }
-{
-    match Stamp::of(now.ms().max(last.ms() + 1)) {
-        Some(time) => time,
-        None => unreachable!(),
     }
 }
