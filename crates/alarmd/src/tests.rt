@@ -158,22 +158,20 @@ fn words_of(alloc: Global, row: &Row) -> Result<Vec<Text>, AllocError> {
     Ok(words)
 }
 
-/// Runs the program over memory, with a clock that reads 0: its status and its output.
-fn outcome(alloc: Global, row: &Row) -> Result<(u8, Vec<u8>), AllocError> {
+/// Whether the program ends so over memory, with a clock that reads 0: its status and its output.
+fn ends_so(alloc: Global, row: &Row) -> Result<bool, AllocError> {
     let words = words_of(alloc, row)?;
     let mut source = MemSource::new(alloc, row.input, &[], &[row.read_fault])?;
     let mut sink = MemSink::new(alloc, 4096, &[row.write_fault])?;
     let mut clock = MemClock::new(alloc, &[])?;
     let status = run(alloc, words.as_slice(), &mut source, &mut sink, &mut clock);
-    Ok((status, Vec::from_slice(alloc, sink.bytes())?))
+    Ok(status == row.status && sink.bytes() == row.output)
 }
 
 #[test]
 fn runs_end_as_they_do(rt: HostRuntime) -> Result<(), Fail> {
-    for row in ROWS {
-        let (status, output) = outcome(rt.alloc(), &row)?;
-        assert_eq!(rt; status, row.status, "{:?}", row.input);
-        assert_eq!(rt; output.as_slice(), row.output, "{:?}", row.input);
+    for row in &ROWS {
+        assert!(rt; ends_so(rt.alloc(), row)?);
     }
     Ok(())
 }
