@@ -1,9 +1,6 @@
 //! What is changed over a journal, what refuses it, and what a stop or a fault leaves.
 
-ghost use Rattle.std.specs.Prelude.{◌≤◌, length};
-
-use crate::requests::{disk_of, journal_of, report};
-use al_base::{Severity, Stamp, Status};
+use crate::journals::{disk_of, journal_of, open, shown, tell};
 use al_disk::MemDisk;
 use al_model::{Refusal, Reply};
 use al_office::OfficeFault;
@@ -11,78 +8,70 @@ use al_office::journaled::Office;
 use std::alloc::{AllocError, Global};
 use std::test::Fail;
 
-const MAJOR: Status = Status::Active(Severity::Major);
-
-/// The history of these bytes: how many entries it has, or why it isn't opened.
-fn shown(alloc: Global, image: &[u8]) -> Result<Result<usize, OfficeFault>, AllocError> {
-    match Office::open(alloc, disk_of(alloc, image, 100, &[])?) {
-        Ok(office) => Ok(Ok(office.len())),
-        Err((_, fault)) => Ok(Err(fault)),
-    }
+/// What two reports answer, between which the journal may be in doubt, and what stands after them.
+#[derive(Clone, Copy, Debug, PartialEq, Eq)]
+struct Told {
+    first: Result<Reply, Refusal>,
+    doubt: bool,
+    second: Result<Reply, Refusal>,
+    used: u64,
+    shown: usize,
 }
 
-fn open(alloc: Global, disk: MemDisk) -> Result<Office<MemDisk>, OfficeFault> {
-    match Office::open(alloc, disk) {
-        Ok(office) => Ok(office),
-        Err((_, fault)) => Err(fault),
-    }
-}
-
-/// Has the link of `eth1` reported.
-fn tell(
-    alloc: Global,
-    office: &mut Office<MemDisk>,
-    words: &[u8],
-) -> Result<Result<Reply, Refusal>, AllocError>
-    requires { length words.now ≤ 255 }
-{
-    let request = report(alloc, b"eth1", MAJOR, words)?;
-    Ok(office.change(0, request, Stamp::EPOCH))
+/// Two reports over a disk that fails at one of its calls.
+fn tell_twice(alloc: Global, fails: u64) -> Result<Told, OfficeFault> {
+    let image = journal_of(alloc, 0)?;
+    let mut office = open(alloc, disk_of(alloc, &image, 100, &[fails])?)?;
+    let first = tell(alloc, &mut office, b"p");
+    let doubt = office.journal().in_doubt();
+    let second = tell(alloc, &mut office, b"qq");
+    let used = office.journal().used();
+    let disk = office.into_disk();
+    let shown = shown(alloc, disk.image())?;
+    Ok(Told {
+        first,
+        doubt,
+        second,
+        used,
+        shown,
+    })
 }
 
 /// A fault at each of the four calls of a commit, and the next report: the refused one is nowhere.
 #[test]
 fn fails_at_each_call_of_a_commit(rt: HostRuntime) -> Result<(), Fail> {
-    let alloc = rt.alloc();
-    let image = journal_of(alloc, 0)?;
     let cases: [(u64, bool); 4] = [(4, false), (5, false), (6, true), (7, true)];
     for (fails, doubt) in &cases {
-        let mut office = open(alloc, disk_of(alloc, &image, 100, &[*fails])?)?;
-        assert_eq!(rt;
-            tell(alloc, &mut office, b"p")?,
-            Err(Refusal::Disk),
-            "{fails}"
-        );
-        assert_eq!(rt; office.journal().in_doubt(), *doubt, "{fails}");
-        assert_eq!(rt; office.look().alarms(), 0, "{fails}");
-        assert_eq!(rt;
-            tell(alloc, &mut office, b"qq")?,
-            Ok(Reply::Done),
-            "{fails}"
-        );
-        assert_eq!(rt; office.journal().used(), 130, "{fails}");
-        assert_eq!(rt; shown(alloc, office.into_disk().image())?, Ok(2), "{fails}");
+        let expected = Told {
+            first: Err(Refusal::Disk),
+            doubt: *doubt,
+            second: Ok(Reply::Done),
+            used: 130,
+            shown: 2,
+        };
+        assert_eq!(rt; tell_twice(rt.alloc(), *fails)?, expected, "{fails}");
     }
     Ok(())
 }
 
 /// Three reports on a disk that takes so many calls: how many entries were acknowledged, with the first, and the disk.
-fn three_reports(alloc: Global, calls: usize) -> Result<(usize, MemDisk), AllocError> {
+fn tell_thrice(alloc: Global, calls: usize) -> Result<(usize, MemDisk), AllocError> {
     let image = journal_of(alloc, 0)?;
-    let mut office = match Office::open(alloc, disk_of(alloc, &image, calls, &[])?) {
+    let disk = disk_of(alloc, &image, calls, &[])?;
+    let mut office = match Office::open(alloc, disk) {
         Ok(office) => office,
-        Err((disk, _)) => return Ok((1, disk)),
+        Err((disk, _fault)) => return Ok((1, disk)),
     };
-    let _ = tell(alloc, &mut office, b"a")?;
-    let _ = tell(alloc, &mut office, b"b")?;
-    let _ = tell(alloc, &mut office, b"c")?;
-    Ok((office.len(), office.into_disk()))
+    let _ = tell(alloc, &mut office, b"a");
+    let _ = tell(alloc, &mut office, b"b");
+    let _ = tell(alloc, &mut office, b"c");
+    let acknowledged = office.len();
+    Ok((acknowledged, office.into_disk()))
 }
 
 /// A stop at each call: the image shows what was acknowledged, or this and the one in doubt, whose gate was opened by the last call.
 #[test]
 fn stops_at_each_call(rt: HostRuntime) -> Result<(), Fail> {
-    let alloc = rt.alloc();
     let cases: [(usize, usize); 16] = [
         (1, 1),
         (1, 1),
@@ -102,33 +91,34 @@ fn stops_at_each_call(rt: HostRuntime) -> Result<(), Fail> {
         (4, 4),
     ];
     for (calls, (acknowledged, shows)) in cases.iter().enumerate() {
-        let (entries, disk) = three_reports(alloc, calls)?;
+        let (entries, disk) = tell_thrice(rt.alloc(), calls)?;
         assert_eq!(rt; entries, *acknowledged, "{calls}");
-        assert_eq!(rt; shown(alloc, disk.image())?, Ok(*shows), "{calls}");
+        assert_eq!(rt; shown(rt.alloc(), disk.image()), Ok(*shows), "{calls}");
     }
     Ok(())
 }
 
-/// Reports of two texts in turn, each of a record of 37 bytes, till the journal is full. The first 92 bytes are those of the installed inventory.
+/// Reports of two texts in turn, 110 of them and one more, in a journal of 4,096 and so many more bytes: the entries, the bytes used, the last answer.
+fn tell_all(alloc: Global, more: u8) -> Result<(usize, u64, Result<Reply, Refusal>), OfficeFault> {
+    let image = journal_of(alloc, more)?;
+    let mut office = open(alloc, disk_of(alloc, &image, 1_000, &[])?)?;
+    for _ in 0..55 {
+        let _ = tell(alloc, &mut office, b"a");
+        let _ = tell(alloc, &mut office, b"b");
+    }
+    let last = tell(alloc, &mut office, b"c");
+    Ok((office.len(), office.journal().used(), last))
+}
+
+/// Each report has a record of 37 bytes. The first 92 bytes are those of the installed inventory.
 #[test]
 fn is_full_at_its_last_byte(rt: HostRuntime) -> Result<(), Fail> {
-    let alloc = rt.alloc();
     let cases: [(u8, usize, u64); 3] = [(0, 109, 4_088), (28, 109, 4_088), (29, 110, 4_125)];
     for (more, entries, used) in &cases {
-        let image = journal_of(alloc, *more)?;
-        let mut office = open(alloc, disk_of(alloc, &image, 1_000, &[])?)?;
-        for _ in 0..54 {
-            assert_eq!(rt; tell(alloc, &mut office, b"a")?, Ok(Reply::Done), "{more}");
-            assert_eq!(rt; tell(alloc, &mut office, b"b")?, Ok(Reply::Done), "{more}");
-        }
-        let _ = tell(alloc, &mut office, b"a")?;
-        assert_eq!(rt;
-            tell(alloc, &mut office, b"c")?,
-            Err(Refusal::JournalFull),
-            "{more}"
-        );
-        assert_eq!(rt; office.len(), *entries, "{more}");
-        assert_eq!(rt; office.journal().used(), *used, "{more}");
+        let (len, last_byte, last) = tell_all(rt.alloc(), *more)?;
+        assert_eq!(rt; len, *entries, "{more}");
+        assert_eq!(rt; last_byte, *used, "{more}");
+        assert_eq!(rt; last, Err(Refusal::JournalFull), "{more}");
     }
     Ok(())
 }

@@ -6,6 +6,6 @@
 #[cfg(test)]
 mod changes;
 #[cfg(test)]
-mod openings;
+mod journals;
 #[cfg(test)]
-mod requests;
+mod openings;
