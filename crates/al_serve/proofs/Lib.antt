@@ -1,0 +1,7 @@
+mod Lefts
+pub mod OneHistory
+mod Serving
+pub mod Sums
+mod Taking
+mod Turning
+mod Working
