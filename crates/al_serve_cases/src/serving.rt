@@ -2,7 +2,7 @@
 
 ghost use Rattle.al_serve.specs.Workers.{IsReady, work_of};
 ghost use Rattle.al_http.specs.Streams.{request_limit};
-ghost use Rattle.std.specs.Prelude.{◌≡◌, ◌≤◌, ◌*◌, Some, IfOk};
+ghost use Rattle.std.specs.Prelude.{◌≡◌, ◌≤◌, ◌*◌, All, Some, IfOk, vec_len};
 
 use crate::gated::{Count, CountedSink, GatedSource, Piece};
 use crate::tally::{Adder, Tally};
@@ -45,6 +45,24 @@ fn worker<N: Doors>(
     })
 }
 
+/// Two workers that are ready.
+fn both<N: Doors>(
+    alloc: Global,
+    turnstile: &Turnstile<Tally>,
+    first: Worker<Tally, N, Adder, MemClock>,
+    second: Worker<Tally, N, Adder, MemClock>,
+) -> Result<Vec<Worker<Tally, N, Adder, MemClock>>, Fail>
+    requires first { IsReady turnstile.now (work_of N.state (λ c. Some c) first) }
+    requires second { IsReady turnstile.now (work_of N.state (λ c. Some c) second) }
+    ensures len { IfOk result (λ workers. vec_len workers ≡ 2) }
+    ensures ready { IfOk result (λ workers. All (λ w. IsReady turnstile.now (work_of N.state (λ c. Some c) w)) workers.items) }
+{
+    let mut workers = Vec::new(alloc);
+    workers.push(first)?;
+    workers.push(second)?;
+    Ok(workers)
+}
+
 /// A door with one connection, which waits for the writes of the other one.
 fn gated_door(
     alloc: Global,
@@ -75,10 +93,9 @@ fn two_workers_wait_for_each_other(rt: HostRuntime) -> Result<(), Fail> {
         &first_writes,
     )?;
     let second_door = gated_door(alloc, &[(1, POST)], &first_writes, &second_writes)?;
-    let mut workers = vec![in alloc;
-        worker(alloc, &turnstile, first, 1, first_door, 1)?,
-        worker(alloc, &turnstile, second, 2, second_door, 1)?,
-    ]?;
+    let first = worker(alloc, &turnstile, first, 1, first_door, 1)?;
+    let second = worker(alloc, &turnstile, second, 2, second_door, 1)?;
+    let mut workers = both(alloc, &turnstile, first, second)?;
     work_all(&rt, &turnstile, workers.as_mut_slice());
     assert_eq!(rt; (workers[0].served, workers[0].added), (1, 2));
     assert_eq!(rt; (workers[1].served, workers[1].added), (1, 1));
