@@ -1,8 +1,8 @@
 //! A door in memory, which tells what it gives and takes.
 
-ghost use Rattle.std.specs.Prelude.{◌≡◌, ◌≤◌, ◌<◌, true, false, [], IfOk, IfSome, IfNone, OnOk, OnErr, slice_get};
+ghost use Rattle.std.specs.Prelude.{◌≡◌, ◌≤◌, ◌<◌, ◌++◌, ◌∷◌, true, false, [], IfOk, IfSome, IfNone, OnOk, OnErr, slice_get};
 ghost use Rattle.std.specs.Option.{option_copied};
-ghost use Rattle.al_base.specs.Memory.{fails_next};
+ghost use Rattle.al_base.specs.Memory.{after_call, fails_next};
 ghost use Rattle.al_base.specs.Outside.{Rose};
 ghost use Rattle.al_serve.specs.Doors.{Gives, IsAtEnd, StaysOpen, TakesBack, connection_of};
 ghost use Rattle.al_serve.specs.MemDoors.{mem_state};
@@ -69,7 +69,17 @@ impl<I: Source, O: Sink> Doors for MemDoors<I, O> {
 
     ghost state = { mem_state I.left I.faults O.held O.faults };
 
-    fn next_connection(&mut self) -> Result<Option<(I, O)>, DoorFault> {
+    fn next_connection(&mut self) -> Result<Option<(I, O)>, DoorFault>
+        ensures gives { IfOk result (λ got. IfSome got (λ connection. Gives (mem_state I.left I.faults O.held O.faults self.old) (connection_of I.left I.faults O.held O.faults connection.0 connection.1) (mem_state I.left I.faults O.held O.faults self.new))) }
+        ensures end { IfOk result (λ got. IfNone got (IsAtEnd (mem_state I.left I.faults O.held O.faults self.old))) }
+        ensures ended { IfOk result (λ got. IfNone got (StaysOpen (mem_state I.left I.faults O.held O.faults self.old) (mem_state I.left I.faults O.held O.faults self.new))) }
+        ensures fault { OnErr result (StaysOpen (mem_state I.left I.faults O.held O.faults self.old) (mem_state I.left I.faults O.held O.faults self.new)) }
+        ensures later { self.old.plan.faults ≤ self.new.plan.faults }
+        ensures cause { OnErr result (Rose self.old.plan.faults self.new.plan.faults) }
+        ensures planned { OnErr result (fails_next self.old.plan ≡ true) }
+        ensures unplanned { OnOk result (fails_next self.old.plan ≡ false) }
+        ensures plan { self.new.plan ≡ after_call self.old.plan (fails_next self.old.plan) }
+    {
         let failed = self.plan.fails_next();
         self.plan.count(failed);
         if failed {
@@ -84,7 +94,13 @@ impl<I: Source, O: Sink> Doors for MemDoors<I, O> {
         }
     }
 
-    fn finish(&mut self, input: I, output: O) {
+    fn finish(&mut self, input: I, output: O)
+        requires { 0 < self.old.out }
+        ensures takes { TakesBack (mem_state I.left I.faults O.held O.faults self.old) (connection_of I.left I.faults O.held O.faults input output) (mem_state I.left I.faults O.held O.faults self.new) }
+        ensures later { self.old.plan.faults ≤ self.new.plan.faults }
+        ensures kept { self.new.finished ≡ self.old.finished ++ (input, output) ∷ [] }
+        ensures plan { self.new.plan ≡ self.old.plan }
+    {
         self.out -= 1;
         self.finished.push_reserved((input, output));
     }

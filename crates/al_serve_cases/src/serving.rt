@@ -8,8 +8,9 @@ use crate::gated::{Count, CountedSink, GatedSource, Piece};
 use crate::tally::{Adder, Tally};
 use al_base::{MemClock, MemSink, MemSource};
 use al_http::Framer;
-use al_serve::{Doors, MemDoors, Worker, work, work_all};
-use al_turn::{Pass, Turnstile};
+use al_model::Kept;
+use al_serve::{Cause, Doors, MemDoors, Worker, converse, work, work_all};
+use al_turn::{Alone, Pass, Turnstile};
 use std::alloc::Global;
 use std::sync::atomic::AtomicU64;
 use std::sync::{Arc, Wait};
@@ -180,5 +181,31 @@ fn one_worker_serves_its_door(rt: HostRuntime) -> Result<(), Fail> {
         assert_eq!(rt; did, *done);
         assert_eq!(rt; wrote.as_slice(), *written);
     }
+    Ok(())
+}
+
+#[test]
+fn one_owner_converses(rt: HostRuntime) -> Result<(), Fail> {
+    let alloc = rt.alloc();
+    let mut alone = Alone::new(Tally::new(alloc));
+    let mut framer = Framer::new(alloc)?;
+    let input = b"POST / HTTP/1.1\r\nContent-Length: 0\r\n\r\nGET / HTTP/1.1\r\n\r\nGET / HT";
+    let mut source = MemSource::new(alloc, input.as_slice(), &[], &[])?;
+    let mut sink = MemSink::new(alloc, 1_000, &[])?;
+    let mut clock = MemClock::new(alloc, &[])?;
+    let ending = converse(
+        &mut alone,
+        &mut Adder,
+        &mut framer,
+        0,
+        &mut source,
+        &mut sink,
+        &mut clock,
+    );
+    assert_eq!(rt;
+        (ending.cause, ending.requests, ending.entries),
+        (Cause::Cut, 2, 1)
+    );
+    assert_eq!(rt; alone.into_inner().entries(), 1);
     Ok(())
 }
