@@ -82,9 +82,7 @@ fn two_workers_wait_for_each_other(rt: HostRuntime) -> Result<(), Fail> {
     let Ok((turnstile, first)) = Turnstile::new(alloc, Tally::new(alloc)) else {
         panic!(rt; "there was no memory for the turnstile")
     };
-    let Ok((first, second)) = turnstile.split(alloc, first) else {
-        panic!(rt; "there was no memory for a pass")
-    };
+    let (first, second) = turnstile.split(first);
     let first_writes = Arc::new(alloc, AtomicU64::new(0))?;
     let second_writes = Arc::new(alloc, AtomicU64::new(0))?;
     let first_door = gated_door(

@@ -79,24 +79,17 @@ impl<T: Kept> Turnstile<T> {
         }
     }
 
-    /// Pass 1 makes the pass with the next number, which has seen what pass 1 has.
-    ///
-    /// It takes no memory today, and so gives no error.
-    pub fn split(
-        &self,
-        _alloc: Global,
-        pass: Pass<T>,
-    ) -> Result<(Pass<T>, Pass<T>), (Pass<T>, AllocError)>
+    /// Pass 1 makes the pass with the next number, which has seen what pass 1 has. It takes no memory.
+    pub fn split(&self, pass: Pass<T>) -> (Pass<T>, Pass<T>)
         requires table { pass.table ≡ self.now.table }
         requires first { pass.view.number ≡ 1 }
         requires few { pass.view.made < 65535 }
-        ensures first { IfOk result (λ both. (both.0.table ≡ pass.table) × (both.0.view ≡ one_more pass.view)) }
-        ensures second { IfOk result (λ both. (both.1.table ≡ pass.table) × (both.1.view ≡ next_view pass.view)) }
-        ensures err { IfErr result (λ refused. refused.0 ≡ pass) }
+        ensures first { (result.0.table ≡ pass.table) × (result.0.view ≡ one_more pass.view) }
+        ensures second { (result.1.table ≡ pass.table) × (result.1.view ≡ next_view pass.view) }
     {
         let Pass { mut seat } = pass;
         let second = self.table.shared.split_seat::<Next>(&mut seat);
-        Ok((Pass { seat }, Pass { seat: second }))
+        (Pass { seat }, Pass { seat: second })
     }
 
     /// The value, once every pass has come back: the passes from 1 to the number made, in this order.

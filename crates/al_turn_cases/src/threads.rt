@@ -55,9 +55,7 @@ fn two_threads_take_a_thousand_turns_each(rt: HostRuntime) -> Result<(), Fail> {
     let Ok((turnstile, first)) = Turnstile::new(alloc, Tally::new(alloc)) else {
         panic!(rt; "there was no memory for the turnstile")
     };
-    let Ok((first, second)) = turnstile.split(alloc, first) else {
-        panic!(rt; "there was no memory for a pass")
-    };
+    let (first, second) = turnstile.split(first);
     let lock = &turnstile;
     let handle = &rt;
     let ((first, first_right), (second, second_right)) = thread::join(
