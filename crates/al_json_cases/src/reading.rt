@@ -6,7 +6,9 @@ ghost use Rattle.al_model.specs.Limits.{IsRequestWithin};
 ghost use Rattle.al_uri.specs.Limits.{IsTargetWithin};
 
 use al_base::{Stamp, Text};
+use al_disk::MemDisk;
 use al_input::{Asked, input};
+use al_journal::birth;
 use al_json::{append_text, text_len, tree};
 use al_lists::Tables;
 use al_model::Request;
@@ -61,24 +63,48 @@ fn request(alloc: Global, path: &str, body: &str) -> Result<Request, Fail>
     }
 }
 
-/// Carries out what is asked.
-pub fn change(alloc: Global, office: &mut Office, ask: Ask) -> Result<(), Fail> {
-    let now = Stamp::of(ask.0).ok_or("no stamp")?;
-    if !office.can_change() {
-        return Err("no number is left")?;
+/// The capacity of each journal.
+const CAPACITY: u64 = 262_144;
+
+/// How many bytes a disk holds.
+const ROOM: usize = 262_144;
+
+/// How many calls a disk takes, of which an entry takes four.
+const CALLS: usize = 5_000;
+
+/// An office whose history is empty.
+pub fn start(alloc: Global) -> Result<Office<MemDisk>, Fail> {
+    let mut disk = MemDisk::new(alloc, &[], ROOM, CALLS, &[])?;
+    birth(&mut disk, CAPACITY)?;
+    match Office::open(alloc, disk) {
+        Ok(office) => Ok(office),
+        Err((_disk, fault)) => Err(fault)?,
     }
+}
+
+/// Whether the request is carried out.
+fn is_done(office: &mut Office<MemDisk>, request: Request, now: Stamp) -> bool
+    requires { IsRequestWithin request }
+{
+    office.change(0, request, now).is_ok()
+}
+
+/// Carries out what is asked.
+pub fn change(alloc: Global, office: &mut Office<MemDisk>, ask: Ask) -> Result<(), Fail> {
+    let now = Stamp::of(ask.0).ok_or("no stamp")?;
     let request = request(alloc, ask.1, ask.2)?;
-    let _reply = office.change(0, request, now)?;
+    if !is_done(office, request, now) {
+        return Err("refused")?;
+    }
     Ok(())
 }
 
-/// The office after this history.
-fn after(alloc: Global, history: &[Ask]) -> Result<Office, Fail> {
-    let mut office = Office::start(alloc)?;
+/// Carries out this history.
+fn carry_out(alloc: Global, office: &mut Office<MemDisk>, history: &[Ask]) -> Result<(), Fail> {
     for ask in history {
-        change(alloc, &mut office, *ask)?;
+        change(alloc, office, *ask)?;
     }
-    Ok(office)
+    Ok(())
 }
 
 /// The text of the tree, if there is one.
@@ -152,9 +178,13 @@ pub fn agrees(alloc: Global, tables: &Tables, path: &str) -> Result<bool, Fail> 
     Ok(has_text(alloc, &target, tables, Some(text.as_str()))?)
 }
 
-/// The number of the first that is shown otherwise.
-fn first_other(alloc: Global, case: &Case) -> Result<Option<usize>, Fail> {
-    let office = after(alloc, case.0)?;
+/// The number of the first that is shown otherwise after the history.
+fn first_other(
+    alloc: Global,
+    office: &mut Office<MemDisk>,
+    case: &Case,
+) -> Result<Option<usize>, Fail> {
+    carry_out(alloc, office, case.0)?;
     for (number, shown) in case.1.iter().enumerate() {
         if !is_shown(alloc, office.look(), *shown)? {
             return Ok(Some(number));
@@ -163,10 +193,16 @@ fn first_other(alloc: Global, case: &Case) -> Result<Option<usize>, Fail> {
     Ok(None)
 }
 
+/// The same over an office whose history is empty.
+fn first_from_start(alloc: Global, case: &Case) -> Result<Option<usize>, Fail> {
+    let mut office = start(alloc)?;
+    first_other(alloc, &mut office, case)
+}
+
 /// The first case that comes out otherwise, and the number of what is shown otherwise.
 pub fn first_wrong(alloc: Global, cases: &[Case]) -> Result<Option<(usize, usize)>, Fail> {
     for (number, case) in cases.iter().enumerate() {
-        if let Some(shown) = first_other(alloc, case)? {
+        if let Some(shown) = first_from_start(alloc, case)? {
             return Ok(Some((number, shown)));
         }
     }

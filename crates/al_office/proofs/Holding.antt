@@ -13,7 +13,7 @@ use Rattle.al_journal.proofs.Pieces.{length-framed}
 use Rattle.al_model.specs.History.{Fits, replay}
 use Rattle.al_model.specs.declared.entry.Entry.{Entry}
 use Rattle.al_office.specs.Images.{ShowsFront, ShowsHistory, ShowsNear, frames_of, used_by}
-use Rattle.al_office.specs.Office.{CanNote}
+use Rattle.al_office.specs.Ledger.{CanNote}
 use Rattle.al_office.proofs.Notes.{few_notes}
 
 -- ---- frames

@@ -18,7 +18,7 @@ use Rattle.al_model.proofs.Decided.{decided_fits, decided_early}
 use Rattle.al_model.proofs.Histories.{legal_push, replay-push}
 use Rattle.al_model.proofs.Validity.{legal_valid}
 use Rattle.al_office.specs.Decisions.{carried_by}
-use Rattle.al_office.specs.Office.{IsKept}
+use Rattle.al_office.specs.Ledger.{IsKept}
 
 -- the decision that is left to be done so
 decision_from : Result (Event × Reply) (Result Reply Refusal) → Decision

@@ -1,11 +1,12 @@
 -- The history and its tables, with the memory that they have at hand.
-use Rattle.std.specs.Prelude.{◌≡◌, ℕ, ◌+◌, ◌<◌, ◌≤◌, Option, None, Some, List, Result, Ok, Err, length}
+use Rattle.std.specs.Prelude.{◌≡◌, ℕ, ◌+◌, ◌<◌, ◌≤◌, ◌^◌, Option, None, Some, List, Result, Ok, Err, length}
 use Rattle.al_alarms.specs.Tables.{TablesView}
 use Rattle.al_frame.specs.Frames.{frame_of}
 use Rattle.al_journal.specs.Views.{JournalView}
 use Rattle.al_lists.specs.Prepared.{IsPreparedFor}
 use Rattle.al_lists.specs.declared.prepared.Prepared.{Prepared}
 use Rattle.al_model.specs.Decision.{entry_of}
+use Rattle.al_model.specs.History.{IsLegal, replay}
 use Rattle.al_model.specs.State.{State}
 use Rattle.al_model.specs.declared.decision.Decision.{Decision}
 use Rattle.al_model.specs.declared.decision.Decision.TheVariants.{Refuse, Same, Change}
@@ -18,6 +19,15 @@ pub record LedgerView : Type 0 where
   pub entries : List Entry
   pub tables : TablesView
   pub room : ℕ
+
+-- What the ledger keeps: the entries are legal, and the state is what they leave.
+pub record IsKept (entries : List Entry) (state : State) : Type 0 where
+  pub legal : IsLegal entries
+  pub tables : state ≡ replay entries
+
+-- A number of 32 bits is left for a further note.
+abbrev pub CanNote : List Entry → Type 0
+CanNote entries = (replay entries).log.sent + 1 < 2 ^ 32
 
 -- The entry can be added by what was prepared, without memory.
 pub record CanAdd (ledger : LedgerView) (entry : Entry) (prepared : Prepared) : Type 0 where

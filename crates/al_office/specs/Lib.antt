@@ -5,7 +5,6 @@ pub mod Images
 pub mod Journaled
 pub mod Laws
 pub mod Ledger
-pub mod Office
 pub mod Opening
 pub mod Reading
 pub mod Taking

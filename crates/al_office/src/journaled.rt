@@ -45,7 +45,7 @@ impl<D: Disk> Model for Office<D> {
 
 impl<D: Disk> Office<D> {
     ghost use Rattle.al_office.specs.Changing.{Ended, IsAnswer, IsCrashSafe, Writes};
-    ghost use Rattle.al_office.specs.Images.{ShowsFront};
+    ghost use Rattle.al_office.specs.Images.{ShowsFront, used_by};
     ghost use Rattle.al_office.specs.Journaled.{LeavesHistory};
     ghost use Rattle.al_office.specs.Opening.{OpensOffice, RefusesOffice};
 
@@ -124,6 +124,7 @@ impl<D: Disk> Office<D> {
     pub fn keeps_its_history(&self)
         ensures legal { IsLegal self.now.entries }
         ensures capacity { self.now.fixed.capacity ≡ self.now.journal.capacity }
+        ensures used { self.now.journal.gate + 1 ≡ used_by self.now.entries }
         ensures now { Told (D.told self.now.journal.disk) (LeavesHistory self.now) }
         ensures longer { self.now.fixed.length ≤ length self.now.entries }
         ensures since { Told (D.told self.now.journal.disk) (Since (ShowsFront self.now.fixed.capacity self.now.fixed.length self.now.entries) self.now.fixed.since) }

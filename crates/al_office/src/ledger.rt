@@ -6,8 +6,7 @@ ghost use Rattle.al_lists.specs.Verdicts.{HasEvent};
 ghost use Rattle.al_model.specs.Decision.{decision_of};
 ghost use Rattle.al_model.specs.History.{Fits, IsLegal, replay};
 ghost use Rattle.al_model.specs.Limits.{IsEntryWithin, IsRequestWithin};
-ghost use Rattle.al_office.specs.Ledger.{CanAdd, carried_out};
-ghost use Rattle.al_office.specs.Office.{CanNote};
+ghost use Rattle.al_office.specs.Ledger.{CanAdd, CanNote, carried_out};
 
 use crate::deciding::{time_after, to_carry_out};
 use al_base::Stamp;
@@ -25,8 +24,7 @@ pub struct Ledger {
 
 impl Model for Ledger {
     ghost use Rattle.std.specs.Prelude.{◌-◌, vec_len, vec_capacity};
-    ghost use Rattle.al_office.specs.Ledger.{LedgerView};
-    ghost use Rattle.al_office.specs.Office.{IsKept};
+    ghost use Rattle.al_office.specs.Ledger.{IsKept, LedgerView};
 
     ghost Value = { LedgerView };
 

@@ -1,4 +1,4 @@
-//! The office: the history and the tables that it leaves, changed as one.
+//! The office: the history, its journal on a disk and the tables that it leaves, changed as one.
 #![tactic(auto)]
 
 mod deciding;
@@ -6,11 +6,10 @@ pub mod fault;
 pub mod journaled;
 pub mod laws;
 mod ledger;
-pub mod office;
 mod opened;
 mod reading;
 mod taking;
 mod writing;
 
 pub use fault::OfficeFault;
-pub use office::Office;
+pub use journaled::Office;

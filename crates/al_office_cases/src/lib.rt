@@ -10,6 +10,8 @@ mod limits;
 #[cfg(test)]
 mod notes;
 #[cfg(test)]
+mod opening;
+#[cfg(test)]
 mod removals;
 #[cfg(test)]
 mod reports;

@@ -1,11 +1,15 @@
 //! What is done with an office, and what is seen of it then.
 
+ghost use Rattle.al_model.specs.Limits.{IsRequestWithin};
+
 use crate::ask::{Ask, At, Criteria, Key, MAJOR};
+use crate::opening::start;
 use crate::request::request;
 use crate::seen::{Seen, Told, has_alarms, has_notes};
 use al_base::{Copied, OperatorState, Stamp};
+use al_disk::MemDisk;
 use al_lists::Tables;
-use al_model::{Refusal, Reply, Side};
+use al_model::{Refusal, Reply, Request, Side};
 use al_office::Office;
 use std::alloc::Global;
 use std::test::Fail;
@@ -53,20 +57,24 @@ pub enum Kind {
     Act,
 }
 
+/// What the request is answered.
+fn answered(office: &mut Office<MemDisk>, request: Request, now: Stamp) -> Answer
+    requires { IsRequestWithin request }
+{
+    office.change(0, request, now)
+}
+
 /// Whether it is answered so.
 fn is_answered(
     alloc: Global,
-    office: &mut Office,
+    office: &mut Office<MemDisk>,
     now: u64,
     ask: &Ask,
     answer: Answer,
 ) -> Result<bool, Fail> {
     let now = Stamp::of(now).ok_or("no stamp")?;
-    if !office.can_change() {
-        return Ok(false);
-    }
     let request = request(alloc, ask)?;
-    Ok(office.change(0, request, now) == answer)
+    Ok(answered(office, request, now) == answer)
 }
 
 fn kind_of<'a>(kind: Kind, name: &'a str) -> (Ask<'a>, Answer) {
@@ -80,7 +88,12 @@ fn kind_of<'a>(kind: Kind, name: &'a str) -> (Ask<'a>, Answer) {
     }
 }
 
-fn are_done(alloc: Global, office: &mut Office, count: u32, kind: Kind) -> Result<bool, Fail> {
+fn are_done(
+    alloc: Global,
+    office: &mut Office<MemDisk>,
+    count: u32,
+    kind: Kind,
+) -> Result<bool, Fail> {
     for n in 0..count {
         let name = format!(in alloc; "p{n:05}")?;
         let (ask, answer) = kind_of(kind, name.as_str());
@@ -92,7 +105,7 @@ fn are_done(alloc: Global, office: &mut Office, count: u32, kind: Kind) -> Resul
 }
 
 /// Whether there are so many entries, and each can be copied.
-fn has_entries(alloc: Global, office: &Office, count: usize) -> Result<bool, Fail> {
+fn has_entries(alloc: Global, office: &Office<MemDisk>, count: usize) -> Result<bool, Fail> {
     for n in 0..office.len() {
         if let Some(entry) = office.entry(n) {
             let _copy = entry.copy(alloc)?;
@@ -119,7 +132,7 @@ fn ms_of(time: Option<Stamp>) -> Option<u64> {
 }
 
 /// Whether the step comes out as it says.
-fn holds(alloc: Global, office: &mut Office, step: &Step) -> Result<bool, Fail> {
+fn holds(alloc: Global, office: &mut Office<MemDisk>, step: &Step) -> Result<bool, Fail> {
     match step {
         Step::At(now, ask, answer) => is_answered(alloc, office, *now, ask, *answer),
         Step::Each(count, kind) => are_done(alloc, office, *count, *kind),
@@ -149,24 +162,33 @@ fn is_shown(tables: &Tables, step: &Step) -> bool {
     }
 }
 
-/// The number of the first step that comes out otherwise, in a history that begins with the inventory, installed at 1000.
-fn first_other(alloc: Global, steps: &[Step]) -> Result<Option<usize>, Fail> {
-    let mut office = Office::start(alloc)?;
-    if !is_answered(alloc, &mut office, 1000, &Ask::Install, DONE)? {
+/// The number of the first step that comes out otherwise, behind the inventory, which is installed at 1000.
+fn first_other(
+    alloc: Global,
+    office: &mut Office<MemDisk>,
+    steps: &[Step],
+) -> Result<Option<usize>, Fail> {
+    if !is_answered(alloc, office, 1000, &Ask::Install, DONE)? {
         return Err("no inventory")?;
     }
     for (number, step) in steps.iter().enumerate() {
-        if !holds(alloc, &mut office, step)? {
+        if !holds(alloc, office, step)? {
             return Ok(Some(number));
         }
     }
     Ok(None)
 }
 
+/// The same over an office whose history is empty.
+fn first_from_start(alloc: Global, steps: &[Step]) -> Result<Option<usize>, Fail> {
+    let mut office = start(alloc)?;
+    first_other(alloc, &mut office, steps)
+}
+
 /// The first case that comes out otherwise, and the number of its step.
 pub fn first_wrong(alloc: Global, cases: &[&[Step]]) -> Result<Option<(usize, usize)>, Fail> {
     for (case, steps) in cases.iter().enumerate() {
-        if let Some(step) = first_other(alloc, steps)? {
+        if let Some(step) = first_from_start(alloc, steps)? {
             return Ok(Some((case, step)));
         }
     }

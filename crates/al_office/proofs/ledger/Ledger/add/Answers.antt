@@ -1,7 +1,6 @@
 use Rattle.std.proofs.Common.{sym, ◌∙◌, subst}
 use Rattle.al_model.specs.History.{replay, Fits}
-use Rattle.al_office.specs.Ledger.{CanAdd}
-use Rattle.al_office.specs.Office.{IsKept}
+use Rattle.al_office.specs.Ledger.{CanAdd, IsKept}
 use Rattle.al_office.proofs.Keeping.{kept_more}
 use Rattle.al_office.proofs.ledger.Ledger.add.Goals as goal
 
