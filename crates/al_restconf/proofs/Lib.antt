@@ -1,3 +1,4 @@
 pub mod Carrying
 pub mod Json
+pub mod Paging
 pub mod Values

@@ -3,7 +3,9 @@ pub mod Changes
 pub mod Faults
 pub mod Fields
 pub mod Machine
+pub mod Members
 pub mod Methods
+pub mod Pages
 pub mod Reads
 pub mod Receipts
 pub mod Targets

@@ -1,15 +1,18 @@
 -- What a read is answered (RFC 8040, section 4.3).
-use Rattle.std.specs.Prelude.{ℕ, nat_le, if◌then◌else◌, false, None, Some, Result, Ok, Err, List, length}
+use Rattle.std.specs.Prelude.{ℕ, nat_le, if◌then◌else◌, false, Option, None, Some, Result, Ok, Err, List, length}
 use Rattle.al_http.specs.declared.response.Content.{Content}
 use Rattle.al_http.specs.declared.response.Content.TheVariants as contents
 use Rattle.al_http.specs.declared.response.Response.{Response}
 use Rattle.al_json.specs.Trees.{tree_of}
-use Rattle.al_model.specs.State.{State}
+use Rattle.al_model.specs.History.{replay}
 use Rattle.al_model.specs.declared.decision.Refusal.TheVariants.{NoAlarm, NoShelf}
+use Rattle.al_model.specs.declared.entry.Entry.{Entry}
 use Rattle.al_uri.specs.Answers.{and_then, or_fault}
 use Rattle.al_uri.specs.declared.target.Target.{Target}
-use Rattle.al_uri.specs.declared.target.Target.TheVariants.{HostMeta, OneShelf, OneAlarm, OneShelved}
+use Rattle.al_uri.specs.declared.target.Target.TheVariants.{HostMeta, OneShelf, OneAlarm, OneShelved, JournalPage}
+use Rattle.serde_json.specs.Data.{Data}
 use Rattle.serde_json.specs.Written.{compact_text}
+use Rattle.al_restconf.specs.Pages.{journal_tree}
 use Rattle.al_restconf.specs.declared.fault.Fault.{Fault}
 use Rattle.al_restconf.specs.declared.fault.Fault.TheVariants.{Refused, NotSet, TooBig}
 
@@ -32,7 +35,13 @@ absence other = NotSet
 abbrev pub within_size : ℕ → List ℕ → Result Response Fault
 within_size place text = if nat_le (length text) most_body then Ok (shown place (contents.Tree text)) else Err TooBig
 
+-- the tree of a resource, where it is there: a page of the journal shows the history, and all else the state that it leaves
+abbrev pub tree_in : List Entry → Target → Option Data
+tree_in history (JournalPage from) = journal_tree history from
+tree_in history target = tree_of target (replay history)
+
 -- the resource's tree as text, where it is there and not too big
-unfoldable pub read_of : State → ℕ → Target → Result Response Fault
-read_of state place HostMeta = Ok (shown place contents.HostMeta)
-read_of state place target = and_then (or_fault (absence target) (tree_of target state)) (λ tree. within_size place (compact_text tree))
+unfoldable pub read_of : List Entry → Target → Result Response Fault
+read_of history HostMeta = Ok (shown (length history) contents.HostMeta)
+read_of history target =
+    and_then (or_fault (absence target) (tree_in history target)) (λ tree. within_size (length history) (compact_text tree))

@@ -1,12 +1,10 @@
 -- The resource that a request names.
-use Rattle.std.specs.Prelude.{Result, Ok, Err}
+use Rattle.std.specs.Prelude.{Result}
 use Rattle.al_http.specs.Requests.{RequestMessage, path_of, query_of}
-use Rattle.al_uri.specs.Answers.{and_then}
 use Rattle.al_uri.specs.Targets.{target_of}
 use Rattle.al_uri.specs.declared.fault.UriFault.{UriFault}
 use Rattle.al_uri.specs.declared.fault.UriFault.TheVariants as uris
 use Rattle.al_uri.specs.declared.target.Target.{Target}
-use Rattle.al_uri.specs.declared.target.Target.TheVariants.{JournalPage}
 use Rattle.al_restconf.specs.Faults.{faulted}
 use Rattle.al_restconf.specs.declared.fault.Fault.{Fault}
 use Rattle.al_restconf.specs.declared.fault.Fault.TheVariants.{NoSuchPath, BadEscape, BadKeys, BadQuery, Memory}
@@ -18,11 +16,6 @@ uri_fault uris.BadKeys = BadKeys
 uri_fault uris.BadQuery = BadQuery
 uri_fault uris.Memory = Memory
 
--- There is no journal yet, so none of its pages is a resource.
-abbrev pub served : Target → Result Target Fault
-served (JournalPage start) = Err NoSuchPath
-served target = Ok target
-
 -- the resource, by the path and then the query
 unfoldable pub target_in : RequestMessage → Result Target Fault
-target_in request = and_then (faulted uri_fault (target_of (path_of request.target) (query_of request.target))) served
+target_in request = faulted uri_fault (target_of (path_of request.target) (query_of request.target))

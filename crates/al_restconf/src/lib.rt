@@ -9,6 +9,7 @@ mod fields;
 pub mod machine;
 mod method;
 mod operator;
+mod page;
 mod read;
 mod receipt;
 pub mod restconf;

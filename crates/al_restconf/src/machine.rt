@@ -1,10 +1,12 @@
 ghost use Rattle.al_http.specs.Responses.{HasText};
+ghost use Rattle.al_http.specs.Services.{Adds};
 ghost use Rattle.al_http.specs.Shown.{message_of};
+ghost use Rattle.al_office.specs.Journaled.{journaled_mark};
 ghost use Rattle.al_restconf.specs.Changes.{Carries};
 ghost use Rattle.al_restconf.specs.Faults.{told};
-ghost use Rattle.al_restconf.specs.Machine.{AddsOne, Answers, answered, done_by, is_head};
+ghost use Rattle.al_restconf.specs.Machine.{IsAnswer, done_by, is_head, verdict_of};
 ghost use Rattle.al_uri.specs.Limits.{IsTargetWithin};
-ghost use Rattle.std.specs.Prelude.{◌≡◌, IfOk, OnErr, Some, length};
+ghost use Rattle.std.specs.Prelude.{◌≡◌, ◌≤◌, IfOk, OnErr, Some, length};
 
 use crate::body::request_asks;
 use crate::change::change;
@@ -14,9 +16,10 @@ use crate::method::Method;
 use crate::read::read;
 use crate::target::read_target;
 use al_base::Stamp;
+use al_disk::Disk;
 use al_http::{HttpRequest, Response};
 use al_model::Kept;
-use al_office::Office;
+use al_office::journaled::Office;
 use al_uri::Target;
 use std::alloc::{AllocError, Global};
 
@@ -28,9 +31,9 @@ fn is_head(request: &HttpRequest) -> bool
 
 /// What the request is answered by a method that its resource has.
 #[tactic(auto, unfolding(crate::specs::Machine::done_by))]
-fn done_by(
+fn done_by<D: Disk>(
     alloc: Global,
-    office: &mut Office,
+    office: &mut Office<D>,
     origin: u16,
     target: &Target,
     method: Method,
@@ -38,9 +41,11 @@ fn done_by(
     now: Stamp,
 ) -> Result<Response, Fault>
     requires { IsTargetWithin target.now }
-    ensures carried { Carries office.old.entries office.new.entries origin (done_by office.old.entries origin now target.now method (message_of request.now)) result }
+    ensures carried { Carries (journaled_mark (D.faults office.old.journal.disk) office.old) (journaled_mark (D.faults office.new.journal.disk) office.new) origin (done_by office.old.entries origin now target.now method (message_of request.now)) result }
     ensures place { IfOk result (λ response. response.place ≡ Some (length office.old.entries)) }
     ensures text { IfOk result HasText }
+    ensures fixed { office.new.fixed ≡ office.old.fixed }
+    ensures later { D.faults office.old.journal.disk ≤ D.faults office.new.journal.disk }
 {
     match method {
         Method::Get | Method::Head => read(alloc, office, target),
@@ -52,17 +57,19 @@ fn done_by(
 }
 
 /// What the request is answered, the first refusal that is due or what it asks for.
-#[tactic(auto, unfolding(crate::specs::Machine::answered))]
-fn answered(
+#[tactic(auto, unfolding(crate::specs::Machine::verdict_of))]
+fn answered<D: Disk>(
     alloc: Global,
-    office: &mut Office,
+    office: &mut Office<D>,
     origin: u16,
     request: &HttpRequest,
     now: Stamp,
 ) -> Result<Response, Fault>
-    ensures carried { Carries office.old.entries office.new.entries origin (answered office.old.entries origin now (message_of request.now)) result }
+    ensures carried { Carries (journaled_mark (D.faults office.old.journal.disk) office.old) (journaled_mark (D.faults office.new.journal.disk) office.new) origin (verdict_of office.old.entries origin now (message_of request.now)) result }
     ensures place { IfOk result (λ response. response.place ≡ Some (length office.old.entries)) }
     ensures text { IfOk result HasText }
+    ensures fixed { office.new.fixed ≡ office.old.fixed }
+    ensures later { D.faults office.old.journal.disk ≤ D.faults office.new.journal.disk }
 {
     let target = read_target(alloc, request)?;
     let method = Method::at(&target, request.method())?;
@@ -85,17 +92,18 @@ fn tell(fault: Fault, place: u64) -> Result<Response, AllocError>
 
 /// Answers the request over the office's history, at a reading of the clock.
 ///
-/// A request that is carried out adds one entry of this origin at most. Where there is no memory for an answer nothing has changed.
+/// A request that is carried out adds one entry of this origin at most. Where there is no memory for an answer, where the journal is full and where
+/// the disk fails, the history is as it was.
 #[tactic(auto, unfolding(crate::specs::Machine::answer_of))]
-pub fn answer(
+pub fn answer<D: Disk>(
     alloc: Global,
-    office: &mut Office,
+    office: &mut Office<D>,
     origin: u16,
     request: &HttpRequest,
     now: Stamp,
 ) -> Result<Response, AllocError>
-    ensures answered { IfOk result (Answers office.old.entries office.new.entries origin (message_of request.now) now) }
-    ensures adds { AddsOne origin office.old.entries office.new.entries }
+    ensures answered { IfOk result (λ response. IsAnswer (journaled_mark (D.faults office.old.journal.disk) office.old) origin (message_of request.now) now response (journaled_mark (D.faults office.new.journal.disk) office.new)) }
+    ensures adds { Adds origin (journaled_mark (D.faults office.old.journal.disk) office.old) (journaled_mark (D.faults office.new.journal.disk) office.new) }
     ensures place { IfOk result (λ response. response.place ≡ Some (length office.old.entries)) }
     ensures text { IfOk result HasText }
     ensures unanswered { OnErr result (office.new.entries ≡ office.old.entries) }

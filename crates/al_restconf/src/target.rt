@@ -1,6 +1,6 @@
 ghost use Rattle.al_http.specs.Shown.{message_of};
 ghost use Rattle.al_restconf.specs.Faults.{Answers};
-ghost use Rattle.al_restconf.specs.Targets.{served, target_in};
+ghost use Rattle.al_restconf.specs.Targets.{target_in};
 ghost use Rattle.al_uri.specs.Limits.{IsTargetWithin};
 ghost use Rattle.std.specs.Prelude.{IfOk};
 
@@ -15,17 +15,5 @@ pub fn read_target(alloc: Global, request: &HttpRequest) -> Result<Target, Fault
     ensures exact { Answers (target_in (message_of request.now)) result }
     ensures within { IfOk result IsTargetWithin }
 {
-    let target = Target::read(alloc, request.path(), request.query())?;
-    served(target)
-}
-
-/// There is no journal yet, so none of its pages is a resource.
-fn served(target: Target) -> Result<Target, Fault>
-    ensures exact { Answers (served target) result }
-    ensures within { IsTargetWithin target → IfOk result IsTargetWithin }
-{
-    match target {
-        Target::JournalPage { start: _ } => Err(Fault::NoSuchPath),
-        target => Ok(target),
-    }
+    Ok(Target::read(alloc, request.path(), request.query())?)
 }

@@ -10,7 +10,7 @@ pub const INSTALL: Step = Step {
 };
 
 /// What is sent, step by step, and what has to be answered.
-pub const SESSIONS: [&[Step]; 9] = [
+pub const SESSIONS: [&[Step]; 10] = [
     // a change is kept, a repeat isn't
     &[
         INSTALL,
@@ -43,6 +43,21 @@ pub const SESSIONS: [&[Step]; 9] = [
             at: 5000,
             request: b"GET /restconf/data/alarmd:notification-log?from=2 HTTP/1.1\r\n\r\n",
             answer: b"HTTP/1.1 200 OK\r\nAlarm-Place: 3\r\nContent-Length: 305\r\nContent-Type: application/yang-data+json\r\n\r\n{\"alarmd:notification-log\":{\"note\":[{\"event-time\":\"1970-01-01T00:00:04.000Z\",\"ietf-alarms:alarm-notification\":{\"alarm-text\":\"still down\",\"alarm-type-id\":\"ex:link\",\"alarm-type-qualifier\":\"\",\"perceived-severity\":\"major\",\"resource\":\"eth1\",\"time\":\"1970-01-01T00:00:04.000Z\"},\"number\":2}],\"oldest\":1,\"sent\":2}}",
+        },
+        Step {
+            at: 5000,
+            request: b"GET /restconf/data/alarmd:journal?from=2 HTTP/1.1\r\n\r\n",
+            answer: b"HTTP/1.1 200 OK\r\nAlarm-Place: 3\r\nContent-Length: 126\r\nContent-Type: application/yang-data+json\r\n\r\n{\"alarmd:journal\":{\"entry\":[\"0000000000000fa0000001000465746831000765783a6c696e6b000004000a7374696c6c20646f776e\"],\"length\":3}}",
+        },
+        Step {
+            at: 5000,
+            request: b"HEAD /restconf/data/alarmd:journal?from=2 HTTP/1.1\r\n\r\n",
+            answer: b"HTTP/1.1 200 OK\r\nAlarm-Place: 3\r\nContent-Length: 126\r\nContent-Type: application/yang-data+json\r\n\r\n",
+        },
+        Step {
+            at: 5000,
+            request: b"GET /restconf/data/alarmd:journal?from=3 HTTP/1.1\r\n\r\n",
+            answer: b"HTTP/1.1 200 OK\r\nAlarm-Place: 3\r\nContent-Length: 31\r\nContent-Type: application/yang-data+json\r\n\r\n{\"alarmd:journal\":{\"length\":3}}",
         },
     ],
     // clears of what isn't or is cleared make no entry
@@ -349,6 +364,29 @@ pub const SESSIONS: [&[Step]; 9] = [
             at: 1000,
             request: b"GET /restconf/data/ietf-alarms:alarms/shelved-alarms/shelved-alarms-last-changed HTTP/1.1\r\n\r\n",
             answer: b"HTTP/1.1 404 Not Found\r\nAlarm-Place: 3\r\nContent-Length: 119\r\nContent-Type: application/yang-data+json\r\n\r\n{\"ietf-restconf:errors\":{\"error\":[{\"error-message\":\"not set\",\"error-tag\":\"invalid-value\",\"error-type\":\"application\"}]}}",
+        },
+    ],
+    // the journal is read from its first entry on
+    &[
+        Step {
+            at: 1,
+            request: b"GET /restconf/data/alarmd:journal HTTP/1.1\r\n\r\n",
+            answer: b"HTTP/1.1 200 OK\r\nAlarm-Place: 0\r\nContent-Length: 31\r\nContent-Type: application/yang-data+json\r\n\r\n{\"alarmd:journal\":{\"length\":0}}",
+        },
+        Step {
+            at: 1,
+            request: b"PUT /restconf/data/ietf-alarms:alarms/control/max-alarm-status-changes HTTP/1.1\r\nContent-Length: 42\r\n\r\n{\"ietf-alarms:max-alarm-status-changes\":2}",
+            answer: b"HTTP/1.1 204 No Content\r\nAlarm-Place: 0\r\n\r\n",
+        },
+        Step {
+            at: 1,
+            request: b"GET /restconf/data/alarmd:journal HTTP/1.1\r\n\r\n",
+            answer: b"HTTP/1.1 200 OK\r\nAlarm-Place: 1\r\nContent-Length: 70\r\nContent-Type: application/yang-data+json\r\n\r\n{\"alarmd:journal\":{\"entry\":[\"00000000000000010000030002\"],\"length\":1}}",
+        },
+        Step {
+            at: 1,
+            request: b"PUT /restconf/data/alarmd:journal HTTP/1.1\r\nContent-Length: 2\r\n\r\n{}",
+            answer: b"HTTP/1.1 405 Method Not Allowed\r\nAlarm-Place: 1\r\nAllow: GET, HEAD\r\nContent-Length: 137\r\nContent-Type: application/yang-data+json\r\n\r\n{\"ietf-restconf:errors\":{\"error\":[{\"error-message\":\"method not allowed\",\"error-tag\":\"operation-not-supported\",\"error-type\":\"protocol\"}]}}",
         },
     ],
     // each resource is read

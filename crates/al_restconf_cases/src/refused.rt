@@ -59,8 +59,8 @@ pub const SESSIONS: [&[Step]; 12] = [
         },
         Step {
             at: 2000,
-            request: b"GET /restconf/data/alarmd:journal HTTP/1.1\r\n\r\n",
-            answer: b"HTTP/1.1 404 Not Found\r\nAlarm-Place: 2\r\nContent-Length: 121\r\nContent-Type: application/yang-data+json\r\n\r\n{\"ietf-restconf:errors\":{\"error\":[{\"error-message\":\"no such path\",\"error-tag\":\"invalid-value\",\"error-type\":\"protocol\"}]}}",
+            request: b"GET /restconf/data/alarmd:journal?from=x HTTP/1.1\r\n\r\n",
+            answer: b"HTTP/1.1 400 Bad Request\r\nAlarm-Place: 2\r\nContent-Length: 118\r\nContent-Type: application/yang-data+json\r\n\r\n{\"ietf-restconf:errors\":{\"error\":[{\"error-message\":\"bad query\",\"error-tag\":\"invalid-value\",\"error-type\":\"protocol\"}]}}",
         },
     ],
     // an inventory is installed once

@@ -1,11 +1,12 @@
 //! A session over memory.
 
 ghost use Rattle.al_http.specs.Responses.{HasText};
-ghost use Rattle.std.specs.Prelude.{◌<◌};
+ghost use Rattle.std.specs.Prelude.{◌<◌, ◌≤◌, length};
 
 use al_base::{Clock, MemClock, MemSink, MemSource, Sink, Source, Stamp};
+use al_disk::MemDisk;
 use al_http::{Framer, HttpRequest, Rejection, Response, Service, Stop, respond};
-use al_office::Office;
+use al_office::journaled::Office;
 use al_restconf::Restconf;
 use std::alloc::{AllocError, Global};
 
@@ -36,9 +37,9 @@ pub fn clock_of(alloc: Global, steps: &[Step]) -> Result<MemClock, AllocError> {
 }
 
 /// What the request is answered; for want of memory, that.
-fn answered<V: Service<Office>>(
+fn answered<V: Service<Office<MemDisk>>>(
     service: &mut V,
-    office: &mut Office,
+    office: &mut Office<MemDisk>,
     request: &HttpRequest,
     now: Stamp,
 ) -> Response
@@ -72,7 +73,7 @@ fn reject<O: Sink>(sink: &mut O, stop: Stop) -> bool {
 /// Answers the requests of the source until one is last, none is left or the input is rejected; whether nothing failed.
 fn serve<S: Source, O: Sink, K: Clock>(
     framer: &mut Framer,
-    office: &mut Office,
+    office: &mut Office<MemDisk>,
     restconf: &mut Restconf,
     source: &mut S,
     sink: &mut O,
@@ -97,10 +98,35 @@ fn serve<S: Source, O: Sink, K: Clock>(
     false
 }
 
-/// The bytes that are answered to the input, whose first read gives so many bytes at most, over a history that begins empty; none where
-/// it is cut.
-pub fn answers(
+/// A journal of capacity 1,048,576 without entries.
+pub const EMPTY: &[u8] = b"\x01ALJ1\0\0\0\0\0\x10\0\0\0";
+
+/// The same with the one entry that installs an inventory of one type of alarms, `ex:link`, at time 1000.
+pub const INSTALLED: &[u8] =
+    b"\x01ALJ1\0\0\0\0\0\x10\0\0\x01\0\0\0\x49\0\0\0\0\0\0\x03\xe8\0\0\x09\0\x01\0\x07ex:link\0\x19ietf-alarms:alarm-type-id\0\x01\0\x07ex:link\0\0\0\0\x01\0\0\x04Link\x02\0";
+
+/// The same in a journal of capacity 4,096.
+pub const SMALL: &[u8] =
+    b"\x01ALJ1\0\0\0\0\0\0\x10\0\x01\0\0\0\x49\0\0\0\0\0\0\x03\xe8\0\0\x09\0\x01\0\x07ex:link\0\x19ietf-alarms:alarm-type-id\0\x01\0\x07ex:link\0\0\0\0\x01\0\0\x04Link\x02\0";
+
+/// How many bytes a disk of these cases holds.
+const ROOM: usize = 65_536;
+
+/// The office of a journal on a disk of which these calls fail.
+fn office_of(alloc: Global, journal: &[u8], fails: &[u64]) -> Result<Office<MemDisk>, AllocError> {
+    if journal.len() > ROOM {
+        return Err(AllocError);
+    }
+    match Office::open(alloc, MemDisk::new(alloc, journal, ROOM, 1000, fails)?) {
+        Ok(office) => Ok(office),
+        Err((_, _)) => Err(AllocError),
+    }
+}
+
+/// The bytes that the office answers to the input, whose first read gives so many bytes at most; none where it is cut.
+fn answers(
     alloc: Global,
+    office: &mut Office<MemDisk>,
     input: &[u8],
     first_piece: usize,
     mut clock: MemClock,
@@ -108,13 +134,12 @@ pub fn answers(
     requires { 0 < first_piece }
 {
     let mut framer = Framer::new(alloc)?;
-    let mut office = Office::start(alloc)?;
     let mut restconf = Restconf::new(alloc);
     let mut source = MemSource::new(alloc, input, &[first_piece], &[])?;
     let mut sink = MemSink::new(alloc, 65536, &[])?;
     if serve(
         &mut framer,
-        &mut office,
+        office,
         &mut restconf,
         &mut source,
         &mut sink,
@@ -124,4 +149,44 @@ pub fn answers(
     } else {
         Ok(None)
     }
+}
+
+/// What a session is answered, none where it is cut, and what it leaves: so many entries, and so many used bytes of the journal.
+#[derive(Drop)]
+pub struct Outcome {
+    pub bytes: Option<Vec<u8>>,
+    pub entries: usize,
+    pub used: u64,
+}
+
+fn told_over(
+    alloc: Global,
+    office: &mut Office<MemDisk>,
+    input: &[u8],
+    first_piece: usize,
+    clock: MemClock,
+) -> Result<Outcome, AllocError>
+    requires { 0 < first_piece }
+{
+    let bytes = answers(alloc, office, input, first_piece, clock)?;
+    Ok(Outcome {
+        bytes,
+        entries: office.len(),
+        used: office.journal().used(),
+    })
+}
+
+/// A session over this journal on a disk of which these calls fail. The first read of its input gives so many bytes at most.
+pub fn told(
+    alloc: Global,
+    journal: &[u8],
+    fails: &[u64],
+    input: &[u8],
+    first_piece: usize,
+    clock: MemClock,
+) -> Result<Outcome, AllocError>
+    requires { 0 < first_piece }
+{
+    let mut office = office_of(alloc, journal, fails)?;
+    told_over(alloc, &mut office, input, first_piece, clock)
 }

@@ -2,7 +2,7 @@
 
 ghost use Rattle.std.specs.Prelude.{◌<◌};
 
-use crate::session::{Step, answers, clock_of, requests_of};
+use crate::session::{EMPTY, INSTALLED, SMALL, Step, clock_of, requests_of, told};
 use crate::{carried, refused};
 use al_base::MemClock;
 use std::alloc::{AllocError, Global};
@@ -35,7 +35,8 @@ fn wrong_in_session(
 {
     let input = requests_of(alloc, steps)?;
     let clock = clock_of(alloc, steps)?;
-    match answers(alloc, input.as_slice(), first_piece, clock)? {
+    let told = told(alloc, EMPTY, &[], input.as_slice(), first_piece, clock)?;
+    match &told.bytes {
         Some(bytes) => Ok(first_wrong(steps, bytes.as_slice())),
         None => Ok(Some(0)),
     }
@@ -96,12 +97,133 @@ fn shelves_answered(alloc: Global) -> Result<Vec<u8>, AllocError> {
     Ok(bytes)
 }
 
+/// Whether a session over this journal, on a disk of which these calls fail, is answered so and leaves so many entries.
+fn is_answered(
+    alloc: Global,
+    journal: &[u8],
+    fails: &[u64],
+    input: &[u8],
+    answered: &[u8],
+    entries: usize,
+) -> Result<bool, AllocError> {
+    let clock = MemClock::new(alloc, &[])?;
+    let told = told(alloc, journal, fails, input, usize::MAX, clock)?;
+    match &told.bytes {
+        Some(bytes) => Ok(bytes.as_slice() == answered && told.entries == entries),
+        None => Ok(false),
+    }
+}
+
 #[test]
 fn the_65th_shelf_is_refused(rt: HostRuntime) -> Result<(), Fail> {
-    let alloc = rt.alloc();
+    let input = shelves(rt.alloc())?;
+    let answered = shelves_answered(rt.alloc())?;
+    assert!(rt;
+        is_answered(
+            rt.alloc(),
+            EMPTY,
+            &[],
+            input.as_slice(),
+            answered.as_slice(),
+            64
+        )?
+    );
+    Ok(())
+}
+
+/// Two reports on a link, and a read of the journal behind its first entry.
+const TWO_REPORTS: &[u8] =
+    b"POST /restconf/operations/alarmd:report HTTP/1.1\r\nContent-Length: 108\r\n\r\n{\"alarmd:input\":{\"alarm-text\":\"p\",\"alarm-type-id\":\"ex:link\",\"perceived-severity\":\"major\",\"resource\":\"eth1\"}}POST /restconf/operations/alarmd:report HTTP/1.1\r\nContent-Length: 108\r\n\r\n{\"alarmd:input\":{\"alarm-text\":\"q\",\"alarm-type-id\":\"ex:link\",\"perceived-severity\":\"major\",\"resource\":\"eth1\"}}GET /restconf/data/alarmd:journal?from=1 HTTP/1.1\r\n\r\n";
+
+/// What they are answered where the disk fails at the first: the second one's entry alone is in the journal.
+const FAULT_AND_DONE: &[u8] =
+    b"HTTP/1.1 500 Internal Server Error\r\nAlarm-Place: 1\r\nContent-Length: 125\r\nContent-Type: application/yang-data+json\r\n\r\n{\"ietf-restconf:errors\":{\"error\":[{\"error-message\":\"disk fault\",\"error-tag\":\"operation-failed\",\"error-type\":\"application\"}]}}HTTP/1.1 204 No Content\r\nAlarm-Place: 1\r\n\r\nHTTP/1.1 200 OK\r\nAlarm-Place: 2\r\nContent-Length: 108\r\nContent-Type: application/yang-data+json\r\n\r\n{\"alarmd:journal\":{\"entry\":[\"00000000000003e9000001000465746831000765783a6c696e6b000004000171\"],\"length\":2}}";
+
+/// The opening takes three calls of the disk, and each of the first entry's four fails in turn.
+#[test]
+fn a_fault_of_the_disk_is_told(rt: HostRuntime) -> Result<(), Fail> {
+    for failing in 4..8 {
+        assert!(rt;
+            is_answered(
+                rt.alloc(),
+                INSTALLED,
+                &[failing],
+                TWO_REPORTS,
+                FAULT_AND_DONE,
+                2
+            )?,
+            "{failing}"
+        );
+    }
+    Ok(())
+}
+
+const FULL_JOURNAL: &[u8] =
+    b"HTTP/1.1 409 Conflict\r\nAlarm-Place: 109\r\nContent-Length: 126\r\nContent-Type: application/yang-data+json\r\n\r\n{\"ietf-restconf:errors\":{\"error\":[{\"error-message\":\"journal full\",\"error-tag\":\"resource-denied\",\"error-type\":\"application\"}]}}HTTP/1.1 200 OK\r\nAlarm-Place: 109\r\nContent-Length: 34\r\nContent-Type: application/yang-data+json\r\n\r\n{\"ietf-alarms:number-of-alarms\":1}";
+
+/// Reports of two texts in turn, of which a journal of 4,096 bytes takes 108, then one more, and two reads.
+fn filling(alloc: Global) -> Result<Vec<u8>, AllocError> {
+    let mut bytes = Vec::new(alloc);
+    for n in 0..109 {
+        let text = if n % 2 == 0 { "a" } else { "b" };
+        let request = format!(in alloc;
+            "POST /restconf/operations/alarmd:report HTTP/1.1\r\nContent-Length: 108\r\n\r\n{{\"alarmd:input\":{{\"alarm-text\":\"{text}\",\"alarm-type-id\":\"ex:link\",\"perceived-severity\":\"major\",\"resource\":\"eth1\"}}}}"
+        )?;
+        bytes.extend_from_slice(request.as_bytes())?;
+    }
+    bytes.extend_from_slice(
+        b"GET /restconf/data/ietf-alarms:alarms/alarm-list/number-of-alarms HTTP/1.1\r\n\r\nGET /restconf/data/alarmd:journal?from=1 HTTP/1.1\r\n\r\n",
+    )?;
+    Ok(bytes)
+}
+
+/// The head of a page of the journal, of 64 entries.
+const PAGE: &[u8] =
+    b"HTTP/1.1 200 OK\r\nAlarm-Place: 109\r\nContent-Length: 4331\r\nContent-Type: application/yang-data+json\r\n\r\n{\"alarmd:journal\":{\"entry\":[";
+
+/// Adds a page of the journal: the frames of 64 reports, of which each comes a millisecond after the entry before.
+fn add_page(alloc: Global, bytes: &mut Vec<u8>) -> Result<(), AllocError> {
+    bytes.extend_from_slice(PAGE)?;
+    for time in 1001..1065 {
+        let text = if time % 2 == 1 { "61" } else { "62" };
+        let end = if time == 1064 {
+            "],\"length\":109}}"
+        } else {
+            ","
+        };
+        let frame = format!(in alloc;
+            "\"{time:016x}000001000465746831000765783a6c696e6b0000040001{text}\"{end}"
+        )?;
+        bytes.extend_from_slice(frame.as_bytes())?;
+    }
+    Ok(())
+}
+
+fn filled(alloc: Global) -> Result<Vec<u8>, AllocError> {
+    let mut bytes = Vec::new(alloc);
+    for place in 1..109 {
+        let answer = format!(in alloc; "HTTP/1.1 204 No Content\r\nAlarm-Place: {place}\r\n\r\n")?;
+        bytes.extend_from_slice(answer.as_bytes())?;
+    }
+    bytes.extend_from_slice(FULL_JOURNAL)?;
+    add_page(alloc, &mut bytes)?;
+    Ok(bytes)
+}
+
+/// Whether the journal is filled up to eight bytes, and what is sent is answered as it should be.
+fn is_filled(alloc: Global) -> Result<bool, AllocError> {
+    let input = filling(alloc)?;
+    let answered = filled(alloc)?;
     let clock = MemClock::new(alloc, &[])?;
-    let bytes = answers(alloc, shelves(alloc)?.as_slice(), usize::MAX, clock)?;
-    let expected = shelves_answered(alloc)?;
-    assert_eq!(rt; bytes.ok_or("cut")?.as_slice(), expected.as_slice());
+    let told = told(alloc, SMALL, &[], input.as_slice(), usize::MAX, clock)?;
+    match &told.bytes {
+        Some(bytes) => Ok(bytes.as_slice() == answered.as_slice() && told.used == 4_088),
+        None => Ok(false),
+    }
+}
+
+#[test]
+fn a_full_journal_is_told(rt: HostRuntime) -> Result<(), Fail> {
+    assert!(rt; is_filled(rt.alloc())?);
     Ok(())
 }
