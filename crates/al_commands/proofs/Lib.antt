@@ -1,0 +1,8 @@
+mod Asking
+mod Digits
+mod Drilling
+mod Keeping
+mod Lines
+mod Numbers
+mod Rows
+mod Texts
