@@ -1,0 +1,11 @@
+mod Colons
+mod Ends
+mod Fresh
+mod Fronts
+mod Hiring
+mod Keeping
+mod OneServe
+mod Sending
+mod Shifts
+mod Stations
+mod Workers
