@@ -1,52 +1,89 @@
 //! The alarm management server.
 #![tactic(auto)]
 
-mod command;
-mod conversation;
-mod program;
+mod tcp_door;
+mod words;
 
-use al_base::{Reading, SystemClock, Text, TextFault, Writing};
-use program::run;
+ghost use Rattle.std.specs.Prelude.{◌≡◌, IfOk, vec_len};
+ghost use Rattle.al_server.specs.ServeWords.{IsServe};
+
+use al_base::{Reading, SystemClock, Text, Writing};
+use al_commands::{ClosedDisk, Command, run, status};
+use al_disk::{Disk, FileDisk};
+use al_server::{ServeWords, run_serve};
 use std::alloc::{AllocError, Global};
+use std::net::{SocketAddr, SocketAddrV4};
 use std::process::ExitCode;
-use std::rt::Env;
-use std::{env, io};
+use std::rt::Clock;
+use tcp_door::doors_at;
+use words::{journal_in, words_of};
 
 fn main(rt: HostRuntime) -> ExitCode {
-    let Ok(words) = words(&rt) else {
-        return ExitCode::from(program::OUT_OF_MEMORY);
+    let Ok(words) = words_of(&rt) else {
+        return ExitCode::from(status::OUT_OF_MEMORY);
     };
+    let words = words.as_slice();
+    let Some(asked) = ServeWords::of(words) else {
+        return run_on_disk(rt, words);
+    };
+    // Each worker has a door and a clock of its own.
+    let workers = workers_of(words, asked);
+    let address = SocketAddr::V4(SocketAddrV4::new(asked.address.ip, asked.address.port));
+    let (Ok(doors), Ok(clocks)) = (
+        doors_at(rt, rt.alloc(), address, workers),
+        clocks_of(rt, rt.alloc(), workers),
+    ) else {
+        return ExitCode::from(status::OUT_OF_MEMORY);
+    };
+    let disk = FileDisk::open(&rt, journal_in(words));
+    let mut sink = Writing::new(rt.stdout());
+    let (status, _, _) = run_serve(&rt, rt.alloc(), words, disk, doors, clocks, &mut sink);
+    ExitCode::from(status)
+}
+
+/// Does what the words ask for on the file that they name: a new one for `init`, one that is there for the others.
+fn run_on_disk(rt: HostRuntime, words: &[Text]) -> ExitCode {
+    match Command::of(words) {
+        Some(Command::Init { capacity: _ }) => {
+            let disk = FileDisk::create(&rt, journal_in(words));
+            run_on(rt, words, disk)
+        }
+        Some(Command::Session | Command::Check) => {
+            let disk = FileDisk::open(&rt, journal_in(words));
+            run_on(rt, words, disk)
+        }
+        _ => run_on(rt, words, ClosedDisk::new()),
+    }
+}
+
+/// Does what the words ask for on this disk, between standard input and standard output.
+fn run_on<D: Disk>(rt: HostRuntime, words: &[Text], disk: D) -> ExitCode {
     let mut source = Reading::new(rt.stdin());
     let mut sink = Writing::new(rt.stdout());
     let alloc = rt.alloc();
     let mut clock = SystemClock::new(rt);
-    let status = run(alloc, words.as_slice(), &mut source, &mut sink, &mut clock);
+    let (status, _) = run(alloc, words, disk, &mut source, &mut sink, &mut clock);
     ExitCode::from(status)
 }
 
-/// The words of the command line; where one of them isn't UTF-8, an empty word, which is no row of the usage line.
-fn words<R: Env + AllocGlobal>(rt: &R) -> Result<Vec<Text>, AllocError> {
-    let alloc = rt.alloc();
-    let mut words = Vec::new(alloc);
-    match env::args(rt) {
-        Ok(mut arguments) => {
-            let _program = arguments.next();
-            for argument in arguments {
-                words.push(word(alloc, argument.as_str())?)?;
-            }
-        }
-        Err(error) if error.kind() == io::ErrorKind::OutOfMemory => return Err(AllocError),
-        Err(_) => words.push(word(alloc, "")?)?,
-    }
-    Ok(words)
+/// How many workers the row asks for: no other row has the same words.
+fn workers_of(words: &[Text], asked: ServeWords) -> usize
+    requires { IsServe words.now asked }
+    ensures { (serve : ServeWords) → IsServe words.now serve → result ≡ serve.workers }
+{
+    usize::from(asked.workers)
 }
 
-fn word(alloc: Global, text: &str) -> Result<Text, AllocError> {
-    match Text::read(alloc, text.as_bytes()) {
-        Ok(word) => Ok(word),
-        Err(TextFault::NotUtf8 | TextFault::Memory) => Err(AllocError),
+fn clocks_of<R: Clock + Copy + Drop>(
+    rt: R,
+    alloc: Global,
+    count: usize,
+) -> Result<Vec<SystemClock<R>>, AllocError>
+    ensures { IfOk result (λ clocks. vec_len clocks ≡ count) }
+{
+    let mut clocks = Vec::new(alloc);
+    for _ in 0..count {
+        clocks.push(SystemClock::new(rt))?;
     }
+    Ok(clocks)
 }
-
-#[cfg(test)]
-mod tests;

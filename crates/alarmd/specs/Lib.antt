@@ -1,4 +1,0 @@
-pub mod Conversations
-pub mod Exchanges
-pub mod Sessions
-pub mod Words
