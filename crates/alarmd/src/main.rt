@@ -1,6 +1,7 @@
 //! The alarm management server.
 #![tactic(auto)]
 
+mod journal_lock;
 mod tcp_door;
 mod words;
 
@@ -11,6 +12,7 @@ use al_base::{Reading, SystemClock, Text, Writing};
 use al_commands::{ClosedDisk, Command, run, status};
 use al_disk::{Disk, FileDisk};
 use al_server::{ServeWords, run_serve};
+use journal_lock::JournalLock;
 use std::alloc::{AllocError, Global};
 use std::net::{SocketAddr, SocketAddrV4};
 use std::process::ExitCode;
@@ -35,20 +37,36 @@ fn main(rt: HostRuntime) -> ExitCode {
     ) else {
         return ExitCode::from(status::OUT_OF_MEMORY);
     };
-    let disk = FileDisk::open(&rt, journal_in(words));
+    let journal = journal_in(words);
     let mut sink = Writing::new(rt.stdout());
-    let (status, _, _) = run_serve(&rt, rt.alloc(), words, disk, doors, clocks, &mut sink);
+    let status = match JournalLock::of(&rt, journal) {
+        Some(_lock) => {
+            let disk = FileDisk::open(&rt, journal);
+            run_serve(&rt, rt.alloc(), words, disk, doors, clocks, &mut sink).0
+        }
+        None => {
+            let disk = ClosedDisk::new();
+            run_serve(&rt, rt.alloc(), words, disk, doors, clocks, &mut sink).0
+        }
+    };
     ExitCode::from(status)
 }
 
-/// Does what the words ask for on the file that they name: a new one for `init`, one that is there for the others.
+/// Does what the words ask for on the file that they name: a new one for `init`, one that is there for the others. A session has it alone.
 fn run_on_disk(rt: HostRuntime, words: &[Text]) -> ExitCode {
     match Command::of(words) {
         Some(Command::Init { capacity: _ }) => {
             let disk = FileDisk::create(&rt, journal_in(words));
             run_on(rt, words, disk)
         }
-        Some(Command::Session | Command::Check) => {
+        Some(Command::Session) => match JournalLock::of(&rt, journal_in(words)) {
+            Some(_lock) => {
+                let disk = FileDisk::open(&rt, journal_in(words));
+                run_on(rt, words, disk)
+            }
+            None => run_on(rt, words, ClosedDisk::new()),
+        },
+        Some(Command::Check) => {
             let disk = FileDisk::open(&rt, journal_in(words));
             run_on(rt, words, disk)
         }
