@@ -8,6 +8,8 @@ mod checks;
 #[cfg(test)]
 mod drills;
 #[cfg(test)]
+mod full;
+#[cfg(test)]
 mod making;
 #[cfg(test)]
 mod runs;

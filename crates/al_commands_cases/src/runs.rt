@@ -62,6 +62,10 @@ pub const EMPTY: &[u8] = b"\x01ALJ1\0\0\0\0\0\x10\0\0\0";
 pub const ONE: &[u8] =
     b"\x01ALJ1\0\0\0\0\0\0\x10\0\x01\0\0\0\x0d\0\0\0\0\0\0\0\x01\0\0\x03\0\x02\0";
 
+/// A journal of capacity 4,096 whose one entry installs an inventory of one type of alarms, `ex:link`, at time 1000.
+pub const INSTALLED: &[u8] =
+    b"\x01ALJ1\0\0\0\0\0\0\x10\0\x01\0\0\0\x49\0\0\0\0\0\0\x03\xe8\0\0\x09\0\x01\0\x07ex:link\0\x19ietf-alarms:alarm-type-id\0\x01\0\x07ex:link\0\0\0\0\x01\0\0\x04Link\x02\0";
+
 /// How many bytes a disk of these cases holds.
 const ROOM: usize = 8192;
 

@@ -1,13 +1,9 @@
 //! A session whose disk stops: what is answered, and what the disk shows.
 
-use crate::runs::{Faults, NO_FAULT, Outcome, Row, disk_of, outcome_of};
+use crate::runs::{Faults, INSTALLED, NO_FAULT, Outcome, Row, disk_of, outcome_of};
 use al_office::journaled::Office;
 use std::alloc::{AllocError, Global};
 use std::test::Fail;
-
-/// A journal of capacity 4,096 whose one entry installs an inventory of one type of alarms, `ex:link`, at time 1000.
-const INSTALLED: &[u8] =
-    b"\x01ALJ1\0\0\0\0\0\0\x10\0\x01\0\0\0\x49\0\0\0\0\0\0\x03\xe8\0\0\x09\0\x01\0\x07ex:link\0\x19ietf-alarms:alarm-type-id\0\x01\0\x07ex:link\0\0\0\0\x01\0\0\x04Link\x02\0";
 
 /// Three reports.
 const REPORTS: &[u8] =
@@ -58,7 +54,8 @@ fn entries_in(alloc: Global, image: &[u8]) -> Result<Option<usize>, AllocError> 
     }
 }
 
-/// A stop at each call: the image shows what was acknowledged, or this and the one in doubt, whose gate was opened by the last call.
+/// A stop at each call: the image shows what was acknowledged, or this and the one in doubt, whose gate was opened by the last call. A stop while the journal
+/// is opened leaves it as it was.
 #[test]
 fn a_stop_at_each_call_loses_nothing(rt: HostRuntime) -> Result<(), Fail> {
     let alloc = rt.alloc();
@@ -95,6 +92,7 @@ fn a_stop_at_each_call_loses_nothing(rt: HostRuntime) -> Result<(), Fail> {
             Some(*entries),
             "{calls}"
         );
+        assert!(rt; opened || outcome.disk.image() == INSTALLED, "{calls}");
     }
     Ok(())
 }

@@ -139,20 +139,30 @@ const TWO_REPORTS: &[u8] =
 const FAULT_AND_DONE: &[u8] =
     b"HTTP/1.1 500 Internal Server Error\r\nAlarm-Place: 1\r\nContent-Length: 125\r\nContent-Type: application/yang-data+json\r\n\r\n{\"ietf-restconf:errors\":{\"error\":[{\"error-message\":\"disk fault\",\"error-tag\":\"operation-failed\",\"error-type\":\"application\"}]}}HTTP/1.1 204 No Content\r\nAlarm-Place: 1\r\n\r\nHTTP/1.1 200 OK\r\nAlarm-Place: 2\r\nContent-Length: 108\r\nContent-Type: application/yang-data+json\r\n\r\n{\"alarmd:journal\":{\"entry\":[\"00000000000003e9000001000465746831000765783a6c696e6b000004000171\"],\"length\":2}}";
 
-/// The opening takes three calls of the disk, and each of the first entry's four fails in turn.
+/// Three reports on a link, and the same read.
+const THREE_REPORTS: &[u8] =
+    b"POST /restconf/operations/alarmd:report HTTP/1.1\r\nContent-Length: 108\r\n\r\n{\"alarmd:input\":{\"alarm-text\":\"p\",\"alarm-type-id\":\"ex:link\",\"perceived-severity\":\"major\",\"resource\":\"eth1\"}}POST /restconf/operations/alarmd:report HTTP/1.1\r\nContent-Length: 108\r\n\r\n{\"alarmd:input\":{\"alarm-text\":\"q\",\"alarm-type-id\":\"ex:link\",\"perceived-severity\":\"major\",\"resource\":\"eth1\"}}POST /restconf/operations/alarmd:report HTTP/1.1\r\nContent-Length: 108\r\n\r\n{\"alarmd:input\":{\"alarm-text\":\"r\",\"alarm-type-id\":\"ex:link\",\"perceived-severity\":\"major\",\"resource\":\"eth1\"}}GET /restconf/data/alarmd:journal?from=1 HTTP/1.1\r\n\r\n";
+
+/// What they are answered where the disk fails at the first two: the third one's entry alone is in the journal.
+const TWO_FAULTS_AND_DONE: &[u8] =
+    b"HTTP/1.1 500 Internal Server Error\r\nAlarm-Place: 1\r\nContent-Length: 125\r\nContent-Type: application/yang-data+json\r\n\r\n{\"ietf-restconf:errors\":{\"error\":[{\"error-message\":\"disk fault\",\"error-tag\":\"operation-failed\",\"error-type\":\"application\"}]}}HTTP/1.1 500 Internal Server Error\r\nAlarm-Place: 1\r\nContent-Length: 125\r\nContent-Type: application/yang-data+json\r\n\r\n{\"ietf-restconf:errors\":{\"error\":[{\"error-message\":\"disk fault\",\"error-tag\":\"operation-failed\",\"error-type\":\"application\"}]}}HTTP/1.1 204 No Content\r\nAlarm-Place: 1\r\n\r\nHTTP/1.1 200 OK\r\nAlarm-Place: 2\r\nContent-Length: 108\r\nContent-Type: application/yang-data+json\r\n\r\n{\"alarmd:journal\":{\"entry\":[\"00000000000003e9000001000465746831000765783a6c696e6b000004000172\"],\"length\":2}}";
+
+/// Which calls of the disk fail, what is sent, and what it is answered. The opening takes three calls, and each of the first entry's four fails in turn.
+/// Behind the last of them the doubt is to be settled before the second entry, and that fails too.
+const FAULTS: [(&[u64], &[u8], &[u8]); 5] = [
+    (&[4], TWO_REPORTS, FAULT_AND_DONE),
+    (&[5], TWO_REPORTS, FAULT_AND_DONE),
+    (&[6], TWO_REPORTS, FAULT_AND_DONE),
+    (&[7], TWO_REPORTS, FAULT_AND_DONE),
+    (&[7, 8], THREE_REPORTS, TWO_FAULTS_AND_DONE),
+];
+
 #[test]
 fn a_fault_of_the_disk_is_told(rt: HostRuntime) -> Result<(), Fail> {
-    for failing in 4..8 {
+    for (n, (fails, input, answered)) in FAULTS.iter().enumerate() {
         assert!(rt;
-            is_answered(
-                rt.alloc(),
-                INSTALLED,
-                &[failing],
-                TWO_REPORTS,
-                FAULT_AND_DONE,
-                2
-            )?,
-            "{failing}"
+            is_answered(rt.alloc(), INSTALLED, fails, input, answered, 2)?,
+            "row {n}"
         );
     }
     Ok(())

@@ -101,9 +101,10 @@ fn two_workers_wait_for_each_other(rt: HostRuntime) -> Result<(), Fail> {
     Ok(())
 }
 
-/// Inputs of the connections of a door, which of its calls fail, what is served and added, whether the door fails, and what is written, one output after the other.
+/// Inputs of the connections of a door, each with the number of its read that fails, 0 for none; which of the door's calls fail; what is served and added,
+/// whether the door fails; and what is written, one output after the other.
 type Case = (
-    &'static [&'static [u8]],
+    &'static [(&'static [u8], u64)],
     &'static [u64],
     (u64, u64, bool),
     &'static [u8],
@@ -114,8 +115,11 @@ const CASES: &[Case] = &[
     // The bytes behind a request that is last are left, and the next connection begins afresh.
     (
         &[
-            b"GET / HTTP/1.1\r\n\r\nGET / HTTP/1.1\r\nConnection: close\r\n\r\nxyz",
-            b"GET / HTTP/1.1\r\n\r\n",
+            (
+                b"GET / HTTP/1.1\r\n\r\nGET / HTTP/1.1\r\nConnection: close\r\n\r\nxyz",
+                0,
+            ),
+            (b"GET / HTTP/1.1\r\n\r\n", 0),
         ],
         &[],
         (2, 0, false),
@@ -124,36 +128,49 @@ const CASES: &[Case] = &[
     // An input that ends in garbage ends its own connection alone.
     (
         &[
-            b"GET / HT",
-            b"POST / HTTP/1.1\r\nContent-Length: 0\r\n\r\n",
-            b"GET / HTTP/1.1\r\n\r\n",
-            b"GET / HTTP/1.1\r\n\r\n",
+            (b"GET / HT", 0),
+            (b"POST / HTTP/1.1\r\nContent-Length: 0\r\n\r\n", 0),
+            (b"GET / HTTP/1.1\r\n\r\n", 0),
+            (b"GET / HTTP/1.1\r\n\r\n", 0),
         ],
         &[],
         (3, 1, false),
         b"HTTP/1.1 204 No Content\r\nAlarm-Place: 0\r\n\r\nHTTP/1.1 204 No Content\r\nAlarm-Place: 1\r\n\r\n",
     ),
+    // A first read that fails ends its own connection alone, and nothing of it is answered.
+    (
+        &[
+            (b"POST / HTTP/1.1\r\nContent-Length: 0\r\n\r\n", 1),
+            (b"GET / HTTP/1.1\r\n\r\n", 0),
+        ],
+        &[],
+        (2, 0, false),
+        b"HTTP/1.1 204 No Content\r\nAlarm-Place: 0\r\n\r\n",
+    ),
     // A door that fails at its second call.
     (
-        &[b"GET / HTTP/1.1\r\n\r\n", b"GET / HTTP/1.1\r\n\r\n"],
+        &[
+            (b"GET / HTTP/1.1\r\n\r\n", 0),
+            (b"GET / HTTP/1.1\r\n\r\n", 0),
+        ],
         &[2],
         (1, 0, true),
         b"HTTP/1.1 204 No Content\r\nAlarm-Place: 0\r\n\r\n",
     ),
     (&[], &[], (0, 0, false), b""),
-    (&[b"GET / HTTP/1.1\r\n\r\n"], &[1], (0, 0, true), b""),
+    (&[(b"GET / HTTP/1.1\r\n\r\n", 0)], &[1], (0, 0, true), b""),
 ];
 
 /// What a worker of three connections does with a door of these inputs, and all that it writes.
 fn serve_one<R: Wait>(
     rt: &R,
     alloc: Global,
-    inputs: &[&[u8]],
+    inputs: &[(&[u8], u64)],
     fails: &[u64],
 ) -> Result<((u64, u64, bool), Vec<u8>), Fail> {
     let mut connections = Vec::new(alloc);
-    for input in inputs {
-        let source = MemSource::new(alloc, input, &[], &[])?;
+    for (input, failing) in inputs {
+        let source = MemSource::new(alloc, input, &[], &[*failing])?;
         connections.push((source, MemSink::new(alloc, 1_000, &[])?))?;
     }
     let door = MemDoors::new(alloc, connections, fails)?;
