@@ -1,6 +1,7 @@
-/* load PORT CLIENTS REQUESTS RESOURCES: so many requests from so many connections, each waiting for its answer before it sends the next one.
-   RESOURCES 0 asks for the number of alarms; else each request is a report of another text on one of so many resources. It prints requests a
-   second, and the latency in microseconds at the 50th, 99th and 99.9th of a hundred. bench/serve builds it. */
+/* load PORT CLIENTS REQUESTS EACH: so many requests from so many connections, each waiting for its answer before it sends the next one. Each EACH-th
+   request of a connection is a report of another text on one of 1,000 resources, and the others ask for the number of alarms: with 1 all are reports,
+   with 0 none is. It prints requests a second, and the latency in microseconds at the 50th, 99th and 99.9th of a hundred; of a mix that of the reads
+   alone. bench/serve builds it. */
 #define _GNU_SOURCE
 #include <arpa/inet.h>
 #include <netinet/tcp.h>
@@ -12,8 +13,10 @@
 #include <time.h>
 #include <unistd.h>
 
-static int port, clients, resources;
-static long requests;
+enum { RESOURCES = 1000 };
+
+static int port, clients;
+static long requests, each;
 static float *micros;
 
 static void fail(const char *why) { fprintf(stderr, "load: %s\n", why); exit(1); }
@@ -24,13 +27,15 @@ static double now(void) {
     return (double)t.tv_sec * 1e6 + (double)t.tv_nsec / 1e3;
 }
 
+static int is_report(long number) { return each && (number + 1) % each == 0; }
+
 static int request(char *room, size_t size, int client, long number) {
     char body[400];
-    if (!resources)
+    if (!is_report(number))
         return snprintf(room, size, "GET /restconf/data/ietf-alarms:alarms/alarm-list/number-of-alarms HTTP/1.1\r\nHost: a\r\n\r\n");
     int length = snprintf(body, sizeof body,
         "{\"alarmd:input\":{\"alarm-text\":\"text %d %ld\",\"alarm-type-id\":\"ex:link\",\"perceived-severity\":\"major\",\"resource\":\"port%ld\"}}",
-        client, number, (client + number * clients) % resources);
+        client, number, (client + number / each * clients) % RESOURCES);
     return snprintf(room, size, "POST /restconf/operations/alarmd:report HTTP/1.1\r\nHost: a\r\nContent-Length: %d\r\n\r\n%s", length, body);
 }
 
@@ -64,7 +69,7 @@ static void *talk(void *number) {
         double begun = now();
         if (send(connection, room, (size_t)length, MSG_NOSIGNAL) != length) fail("a request was cut off");
         answer(connection);
-        micros[(long)client * (requests / clients) + n] = (float)(now() - begun);
+        micros[(long)client * (requests / clients) + n] = each > 1 && is_report(n) ? -1 : (float)(now() - begun);
     }
     close(connection);
     return 0;
@@ -76,8 +81,8 @@ static int rising(const void *a, const void *b) {
 }
 
 int main(int words, char **word) {
-    if (words != 5) fail("usage: load PORT CLIENTS REQUESTS RESOURCES");
-    port = atoi(word[1]), clients = atoi(word[2]), requests = atol(word[3]), resources = atoi(word[4]);
+    if (words != 5) fail("usage: load PORT CLIENTS REQUESTS EACH");
+    port = atoi(word[1]), clients = atoi(word[2]), requests = atol(word[3]), each = atol(word[4]);
     long all = requests / clients * clients;
     micros = calloc((size_t)all, sizeof *micros);
     pthread_t thread[64];
@@ -85,8 +90,11 @@ int main(int words, char **word) {
     for (long n = 0; n < clients; n++)
         if (pthread_create(&thread[n], 0, talk, (void *)n)) fail("no thread");
     for (long n = 0; n < clients; n++) pthread_join(thread[n], 0);
-    double each = (now() - begun) / 1e6;
+    double seconds = (now() - begun) / 1e6;
     qsort(micros, (size_t)all, sizeof *micros, rising);
-    printf("%.0f %.0f %.0f %.0f\n", (double)all / each, micros[all / 2], micros[all * 99 / 100], micros[all * 999 / 1000]);
+    float *timed = micros;
+    while (timed < micros + all - 1 && *timed < 0) timed++;
+    long times = all - (timed - micros);
+    printf("%.0f %.0f %.0f %.0f\n", (double)all / seconds, timed[times / 2], timed[times * 99 / 100], timed[times * 999 / 1000]);
     return 0;
 }

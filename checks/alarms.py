@@ -89,29 +89,41 @@ class Client:
         return found[0]
 
 
-class Server:
-    """A running `alarmd serve` on a free port of this machine."""
+def held_port():
+    """A socket whose port nobody else is given while it is there. Nothing listens to it, so that a server may take the port beside it."""
+    held = socket.socket()
+    held.setsockopt(socket.SOL_SOCKET, socket.SO_REUSEADDR, 1)
+    held.bind(("127.0.0.1", 0))
+    return held
 
-    def __init__(self, program, journal, workers, connections):
-        with socket.create_server(("127.0.0.1", 0)) as free:
-            self.port = free.getsockname()[1]
-        self.child = subprocess.Popen(
-            [program, "serve", journal, f"127.0.0.1:{self.port}", str(workers), str(connections)], stdout=subprocess.PIPE
-        )
+
+class Server:
+    """A running `alarmd serve` on a free port of this machine; it begins with this call, where one is given."""
+
+    def __init__(self, program, journal, workers, connections, begin=None):
+        self.held = held_port()
+        self.port = self.held.getsockname()[1]
+        words = [program, "serve", journal, f"127.0.0.1:{self.port}", str(workers), str(connections)]
+        self.child = subprocess.Popen(words, stdout=subprocess.PIPE, preexec_fn=begin)
         self.gone = False
         atexit.register(self.kill)
 
-    def connect(self):
-        """A connection; None where the server is gone, or gave none for ten seconds."""
+    def connect(self, room=None):
+        """A connection; None where the server is gone, or gave none for ten seconds. ROOM: about how many bytes of answers wait in it."""
         for _ in range(2000):
             if self.gone:
                 return None
+            connection = socket.socket()
+            connection.settimeout(20)
+            connection.setsockopt(socket.IPPROTO_TCP, socket.TCP_NODELAY, 1)
+            if room:
+                connection.setsockopt(socket.SOL_SOCKET, socket.SO_RCVBUF, room)
             try:
-                connection = socket.create_connection(("127.0.0.1", self.port), timeout=20)
+                connection.connect(("127.0.0.1", self.port))
             except OSError:
+                connection.close()
                 time.sleep(0.005)
                 continue
-            connection.setsockopt(socket.IPPROTO_TCP, socket.TCP_NODELAY, 1)
             return connection
         return None
 
