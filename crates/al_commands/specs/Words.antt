@@ -42,7 +42,7 @@ pub record IsDrill (words : List (List ℕ)) (seed count : ℕ) : Type 0 where
   pub seed_within : seed ≤ 2147483647
   pub count_within : count ≤ 20000
 
--- No row that is built.
+-- No row of these four.
 pub record IsNoRow (words : List (List ℕ)) : Type 0 where
   pub no_init : (capacity : ℕ) → ¬ (IsInit words capacity)
   pub no_session : ¬ (IsSession words)
