@@ -1,6 +1,7 @@
 //! The alarm management server.
 #![tactic(auto)]
 
+mod journal_length;
 mod journal_lock;
 mod tcp_door;
 mod words;
@@ -12,6 +13,7 @@ use al_base::{Reading, SystemClock, Text, Writing};
 use al_commands::{ClosedDisk, Command, run, status};
 use al_disk::{Disk, FileDisk};
 use al_server::{ServeWords, run_serve};
+use journal_length::lengthen;
 use journal_lock::JournalLock;
 use std::alloc::{AllocError, Global};
 use std::net::{SocketAddr, SocketAddrV4};
@@ -54,11 +56,8 @@ fn main(rt: HostRuntime) -> ExitCode {
 
 /// Does what the words ask for on the file that they name: a new one for `init`, one that is there for the others. A session has it alone.
 fn run_on_disk(rt: HostRuntime, words: &[Text]) -> ExitCode {
-    match Command::of(words) {
-        Some(Command::Init { capacity: _ }) => {
-            let disk = FileDisk::create(&rt, journal_in(words));
-            run_on(rt, words, disk)
-        }
+    let status = match Command::of(words) {
+        Some(Command::Init { capacity }) => init(rt, words, capacity),
         Some(Command::Session) => match JournalLock::of(&rt, journal_in(words)) {
             Some(_lock) => {
                 let disk = FileDisk::open(&rt, journal_in(words));
@@ -71,17 +70,30 @@ fn run_on_disk(rt: HostRuntime, words: &[Text]) -> ExitCode {
             run_on(rt, words, disk)
         }
         _ => run_on(rt, words, ClosedDisk::new()),
-    }
+    };
+    ExitCode::from(status)
 }
 
-/// Does what the words ask for on this disk, between standard input and standard output.
-fn run_on<D: Disk>(rt: HostRuntime, words: &[Text], disk: D) -> ExitCode {
+/// Makes a journal, and lengthens its file once it is made.
+fn init(rt: HostRuntime, words: &[Text], capacity: u64) -> u8 {
+    let journal = journal_in(words);
+    let disk = FileDisk::create(&rt, journal);
+    let status = run_on(rt, words, disk);
+    if status == status::DONE {
+        // A journal whose file stays short is as good.
+        let _ = lengthen(&rt, journal, capacity);
+    }
+    status
+}
+
+/// Does what the words ask for on this disk, between standard input and standard output, and gives the status.
+fn run_on<D: Disk>(rt: HostRuntime, words: &[Text], disk: D) -> u8 {
     let mut source = Reading::new(rt.stdin());
     let mut sink = Writing::new(rt.stdout());
     let alloc = rt.alloc();
     let mut clock = SystemClock::new(rt);
     let (status, _) = run(alloc, words, disk, &mut source, &mut sink, &mut clock);
-    ExitCode::from(status)
+    status
 }
 
 /// How many workers the row asks for: no other row has the same words.
