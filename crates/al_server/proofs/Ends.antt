@@ -1,26 +1,23 @@
 -- How a run of `serve` ends.
-use Rattle.std.proofs.Common.{◌≡◌, ◌≢◌, ◌⊎◌, inl, inr, ℕ, ◌+◌, ◌-◌, ◌<◌, ◌≤◌, Bool, true, false, Option, None, Some, List, [], ◌∷◌, ◌++◌, length, map, refl, sym, ap, ◌∙◌, subst, arith, length-append}
+use Rattle.std.proofs.Common.{◌≡◌, ◌⊎◌, inl, inr, ℕ, ◌+◌, ◌-◌, Bool, true, false, Option, List, [], ◌∷◌, length, map, refl, sym, ap, ◌∙◌, subst, arith}
 use Rattle.std.specs.Prelude.{◌||◌}
 use Rattle.al_base.specs.Outside.{Rose}
-use Rattle.al_base.specs.Readings.{Readings}
 use Rattle.al_disk.proofs.Going.{stays}
-use Rattle.al_disk.specs.States.{DiskState, Goes, synced}
+use Rattle.al_disk.specs.States.{DiskState, Goes}
 use Rattle.al_journal.specs.Walks.{LeavesAsBefore}
 use Rattle.al_model.specs.History.{IsLegal}
-use Rattle.al_model.specs.declared.entry.Entry.{Entry}
 use Rattle.al_model.specs.declared.kept.Mark.{Mark}
 use Rattle.al_office.specs.Journaled.{JournaledView}
 use Rattle.al_office.specs.Opening.{OpensOffice, RefusesOffice}
 use Rattle.al_office.specs.declared.fault.OfficeFault.{OfficeFault}
 use Rattle.al_office.specs.declared.fault.OfficeFault.TheVariants as offices
 use Rattle.al_serve.specs.Doors.{DoorState}
-use Rattle.al_turn.specs.Histories.{GoesOn, further}
 use Rattle.al_server.proofs.Keeping.{leaves_same}
 use Rattle.al_server.proofs.Fronts.{appends_same}
 use Rattle.al_commands.specs.Lines.{Tells, fault_line}
-use Rattle.al_server.specs.Serving.{AreAllServed, EndsShift, HasNotServed, HasServed, HaveServedDoors, OneRose, Posts, Station, has_failed, served_by, served_line, status_by}
-use Rattle.al_commands.specs.Sessions.{Disks, HasNotBegun, KeepsJournal}
-use Rattle.al_commands.specs.Statuses.{status_door_fault, status_of_fault, status_out_of_memory, status_write_fault}
+use Rattle.al_server.specs.Serving.{EndsShift, HasNotServed, HasServed, HaveServedDoors, OneRose, Posts, Station, has_failed, served_by, served_line, status_by}
+use Rattle.al_commands.specs.Sessions.{Disks, KeepsJournal}
+use Rattle.al_commands.specs.Statuses.{status_door_fault, status_of_fault, status_out_of_memory}
 
 -- ---- nothing served
 
@@ -77,13 +74,6 @@ told_so served entries count last done old_output new_output status told_status 
     let a = subst (λ (n : ℕ). Tells (served_line served n) done old_output new_output status) counted told in
     subst (λ (n : ℕ). Tells (served_line served (last - count)) n old_output new_output status) is a
 
--- what goes on is no shorter
-pub goes_longer : (before after : Mark) → GoesOn before after → length before.entries ≤ length after.entries
-goes_longer before after goes =
-    let lengths = ap (λ (es : List Entry). length es) goes.begins in
-    let parts = length-append before.entries (further after.entries before.entries) in
-    omega (arith, lengths, parts)
-
 pub all_ended : (connections : ℕ) (posts : Posts) (disks : Disks) (old_output new_output : Option (List ℕ)) (status : ℕ) (before after : Mark) (served count : ℕ) (failed : Bool) → IsLegal before.entries → IsLegal after.entries
     → EndsShift connections posts before after served failed → KeepsJournal before after disks → count ≡ length before.entries
     → Tells (served_line served (length after.entries - count)) (status_by failed) old_output new_output status → HasServed connections posts disks old_output new_output status
@@ -131,21 +121,3 @@ one_rose connections posts before after served failed text old_output new_output
           (subst (λ (doors : List DoorState). OneRose doors (map (λ (s : Station). s.left) ends.stations)) ends.all.given (or_rose connections before after 1 ends.stations ends.all.served faulted))
       | inr cut ↦ absurd (let s = cut.0 in omega (arith, s, is))
     ]
-
--- no other status is 11
-pub other_status : (fault : OfficeFault) (text : List ℕ) (old_output new_output : Option (List ℕ)) (status : ℕ) → Tells text (status_of_fault fault) old_output new_output status → status ≢ status_door_fault
-other_status fault text old_output new_output status told is =
-    elim told [
-      | inl whole ↦ (let s = whole.0 in not_eleven fault (sym s ∙ is))
-      | inr cut ↦ absurd (let s = cut.0 in omega (arith, s, is))
-    ]
-  where
-    not_eleven : (fault : OfficeFault) → status_of_fault fault ≡ status_door_fault → ⊥
-    not_eleven offices.NotAJournal is = absurd (omega (arith, is))
-    not_eleven (offices.Invalid count) is = absurd (omega (arith, is))
-    not_eleven offices.Disk is = absurd (omega (arith, is))
-    not_eleven offices.Memory is = absurd (omega (arith, is))
-
-pub words_status : (done : ℕ) (text : List ℕ) (old_output new_output : Option (List ℕ)) (status : ℕ) → done ≢ status_door_fault → Tells text done old_output new_output status → status ≢ status_door_fault
-words_status done text old_output new_output status other told is =
-    elim told [ inl whole ↦ other (sym whole.0 ∙ is) | inr cut ↦ absurd (let s = cut.0 in omega (arith, s, is)) ]

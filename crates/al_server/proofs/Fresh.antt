@@ -1,13 +1,12 @@
 -- Passes and workers before their first turns.
-use Rattle.std.proofs.Common.{◌≡◌, ℕ, zero, suc, ◌+◌, ◌*◌, ◌-◌, ◌<◌, ◌≤◌, Option, Some, List, [], ◌∷◌, ◌++◌, length, map, refl, sym, ap, ◌∙◌, subst, arith, slice_get, add-zero, add_comm}
+use Rattle.std.proofs.Common.{◌≡◌, ℕ, zero, suc, ◌+◌, ◌≤◌, Some, List, [], ◌∷◌, ◌++◌, length, refl, sym, ap, ◌∙◌, subst, arith, slice_get, add-zero, add_comm}
 use Rattle.std.specs.List.{AllByRecursion, AllZip}
-use Rattle.al_http.specs.Streams.{request_limit}
-use Rattle.al_serve.specs.Workers.{IsReady, Work, put_by}
+use Rattle.al_serve.specs.Workers.{IsReady, Work}
 use Rattle.al_turn.specs.Identities.{Identity}
 use Rattle.al_turn.specs.Passes.{AllPasses, LockState, PassState, identity_of}
 use Rattle.al_turn.specs.Views.{first_view, next_view}
 use Rattle.al_turn.specs.declared.view.View.{View}
-use Rattle.al_server.specs.Crews.{AreFresh, AreHired, ArePasses, HasBegun, HaveBegun, IsFresh, all_there, passes_of}
+use Rattle.al_server.specs.Crews.{AreFresh, ArePasses, HasBegun, HaveBegun, IsFresh, all_there, passes_of}
 
 one_behind : (number count : ℕ) → number + suc count ≡ number + 1 + count
 one_behind number count = omega arith
@@ -99,22 +98,3 @@ next_fresh lock made old new first next table view counted next_table next_is pu
       left = ap (λ (v : View). v.left) known;
     } in
     subst (λ (ps : List PassState). AreFresh lock 2 ps) (sym pushes) (fresh_more lock 2 old next fresh one)
-
--- pass 1 before the others
-pub all_made : (lock : LockState) (count made : ℕ) (others all : List PassState) (first : PassState) → first.table ≡ lock.table → first.view ≡ record (first_view lock.start) { made = made } → made ≡ count
-    → length others + 1 ≡ made → AreFresh lock 2 others → all ≡ first ∷ others → ArePasses lock count all
-all_made lock count made others all first table view is counted fresh pushes =
-    let one : IsFresh lock 1 first = record {
-      table = table;
-      numbered = ap (λ (v : View). v.number) view;
-      base = ap (λ (v : View). v.base) view;
-      seen = ap (λ (v : View). v.seen) view;
-      left = ap (λ (v : View). v.left) view;
-    } in
-    let there : ArePasses lock count (first ∷ others) = record {
-      some_pass = omega (arith, is, counted);
-      counted = omega (arith, is, counted);
-      fresh = (one, fresh);
-      made = λ pass at. (let same : first ≡ pass = (cc) in ap (λ (p : PassState). p.view.made) (sym same) ∙ ap (λ (v : View). v.made) view ∙ is);
-    } in
-    subst (ArePasses lock count) (sym pushes) there

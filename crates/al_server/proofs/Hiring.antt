@@ -8,7 +8,7 @@ use Rattle.al_serve.specs.Doors.{DoorState}
 use Rattle.al_serve.specs.Workers.{Work}
 use Rattle.al_turn.specs.Passes.{PassState}
 use Rattle.al_server.proofs.Fresh.{begun_more}
-use Rattle.al_server.specs.Crews.{AreDismissed, AreHired, HasBegun, HaveBegun, HavePasses, all_there, any_failed, clocks_of, doors_of, passes_of, served_of}
+use Rattle.al_server.specs.Crews.{AreDismissed, HasBegun, HaveBegun, HavePasses, all_there, any_failed, clocks_of, doors_of, passes_of, served_of}
 
 -- ---- hiring
 
@@ -18,9 +18,6 @@ pub record Hiring (connections : ℕ) (passes left_passes : List PassState) (doo
   pub doors_are : doors_of works ++ left_doors ≡ doors
   pub clocks_are : clocks_of works ++ left_clocks ≡ clocks
   pub begun : HaveBegun connections 1 works
-
-pub none_hired : (connections : ℕ) (passes : List PassState) (doors : List DoorState) (clocks : List (Option Readings)) → Hiring connections passes passes doors doors clocks clocks []
-none_hired connections passes doors clocks = record { passes_are = refl; doors_are = refl; clocks_are = refl; begun = tt }
 
 -- an element goes from the one list to the other
 moves : {A B : Type 0} (f : A → B) (xs : List A) (x : A) (ys : List B) → map f (xs ++ x ∷ []) ++ ys ≡ map f xs ++ f x ∷ ys
@@ -36,15 +33,6 @@ one_hired connections passes left_passes doors left_doors clocks left_clocks wor
   begun = begun_more connections 1 works work hiring.begun begun;
 }
 
-pub all_hired : (connections : ℕ) (passes : List PassState) (doors : List DoorState) (clocks : List (Option Readings)) (works : List Work)
-    → Hiring connections passes [] doors [] clocks [] works → AreHired connections passes doors clocks works
-all_hired connections passes doors clocks works hiring = record {
-  passes_are = sym (append-nil (passes_of works)) ∙ hiring.passes_are;
-  doors_are = sym (append-nil (doors_of works)) ∙ hiring.doors_are;
-  clocks_are = sym (append-nil (clocks_of works)) ∙ hiring.clocks_are;
-  begun = hiring.begun;
-}
-
 -- ---- dismissing
 
 -- The first workers have given these passes and doors back, and those are left.
@@ -54,9 +42,6 @@ pub record Dismissing (all left : List Work) (passes : List PassState) (doors : 
   pub served : served_of all ≡ connections + served_of left
   pub failed : any_failed all ≡ (faulted || any_failed left)
   pub have : HavePasses left
-
-pub none_dismissed : (all : List Work) → HavePasses all → Dismissing all all [] [] 0 false
-none_dismissed all have = record { passes_are = refl; doors_are = refl; served = omega arith; failed = refl; have = have }
 
 or_assoc : (a b c : Bool) → (a || (b || c)) ≡ ((a || b) || c)
 or_assoc true b c = refl

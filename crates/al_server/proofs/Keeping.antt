@@ -1,5 +1,5 @@
 -- What an office that was opened and has gone on leaves of its journal.
-use Rattle.std.proofs.Common.{◌≡◌, ◌⊎◌, inl, inr, ℕ, ◌≤◌, length, Bool, true, false, Option, [], ◌∷◌, refl, sym, ap, ◌∙◌, subst, arith}
+use Rattle.std.proofs.Common.{◌≡◌, inl, inr, ℕ, ◌≤◌, length, Bool, true, false, Option, [], ◌∷◌, refl, sym, ap, ◌∙◌, subst, arith}
 use Rattle.al_disk.specs.Moments.{Since}
 use Rattle.al_disk.specs.States.{DiskState, Goes, Told, synced, time}
 use Rattle.al_journal.specs.Walks.{LeavesAsBefore}

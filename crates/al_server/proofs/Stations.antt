@@ -1,22 +1,22 @@
 -- What came of the doors, from what the workers did.
-use Rattle.std.proofs.Common.{◌≡◌, ◌⊎◌, inl, inr, ℕ, zero, suc, ◌+◌, ◌-◌, ◌<◌, ◌≤◌, min, Bool, true, false, Option, None, Some, List, [], ◌∷◌, ◌++◌, length, map, refl, sym, ap, ◌∙◌, subst, arith, slice_get, length-append}
+use Rattle.std.proofs.Common.{◌≡◌, inl, inr, ℕ, suc, ◌+◌, ◌≤◌, Bool, false, Option, None, Some, List, [], ◌∷◌, ◌++◌, length, map, refl, sym, ap, ◌∙◌, subst, arith, slice_get, length-append}
 use Rattle.std.proofs.lemmas.List.{length-map}
 use Rattle.std.proofs.lemmas.List.Sums.{sum_by-cons}
-use Rattle.std.specs.Prelude.{◌||◌, sum_by}
-use Rattle.std.specs.List.{AllZip, list_any}
+use Rattle.std.specs.Prelude.{◌||◌}
+use Rattle.std.specs.List.{AllZip}
 use Rattle.std.specs.Option.{option_map}
 use Rattle.al_base.specs.Readings.{Readings}
 use Rattle.al_model.specs.declared.entry.Entry.{Entry}
 use Rattle.al_model.specs.declared.kept.Mark.{Mark}
 use Rattle.al_restconf.specs.Machine.{IsAnswer}
-use Rattle.al_serve.specs.Doors.{Connection, DoorState, IsAtEnd}
+use Rattle.al_serve.specs.Doors.{Connection, DoorState}
 use Rattle.al_serve.specs.Laws.{AreNumberedFrom, put_by_all}
-use Rattle.al_serve.specs.Workers.{AreServed, HandsOut, HasWorked, Round, Work, given_of, put_by}
-use Rattle.al_turn.specs.Histories.{GoesOn, entries_of}
+use Rattle.al_serve.specs.Workers.{AreServed, HasWorked, Round, Work, given_of, put_by}
+use Rattle.al_turn.specs.Histories.{entries_of}
 use Rattle.al_turn.specs.Identities.{Identity}
-use Rattle.al_turn.specs.Passes.{Ended, LockState, PassState, identity_of, own_origin}
+use Rattle.al_turn.specs.Passes.{Ended, LockState, PassState, identity_of}
 use Rattle.al_server.specs.Crews.{AreFresh, HasBegun, HaveBegun, IsFresh, all_there, any_failed, clocks_of, doors_of, passes_of, served_of}
-use Rattle.al_server.specs.Serving.{HasServedDoor, HaveServedDoors, Station, added_by, due_by, due_of, has_failed, only, served_by}
+use Rattle.al_server.specs.Serving.{HasServedDoor, HaveServedDoors, Station, added_by, due_by, has_failed, only, served_by}
 
 -- ---- what is due
 

@@ -3,13 +3,11 @@ use Rattle.std.specs.Prelude.{◌≡◌, ℕ, ◌+◌, ◌≤◌, Bool, IsSome, 
 use Rattle.std.specs.List.{AllByRecursion, AllZip, list_any}
 use Rattle.std.specs.VecDeque.{deque_capacity}
 use Rattle.al_base.specs.Readings.{Readings}
-use Rattle.al_model.specs.declared.kept.Mark.{Mark}
 use Rattle.al_restconf.specs.Machine.{IsAnswer}
 use Rattle.al_serve.specs.Doors.{DoorState}
 use Rattle.al_serve.specs.Workers.{HasWorked, Work}
 use Rattle.al_turn.specs.Passes.{LockState, PassState}
 use Rattle.al_turn.specs.Views.{turns_at_first}
-use Rattle.al_turn.specs.declared.view.View.{View}
 use Rattle.al_server.specs.declared.crew.Room.{Room}
 
 -- There is room for so many workers, and a framer for each.

@@ -1,5 +1,5 @@
 -- What `serve` does: workers answer the connections of their doors, at the same time, over the one history that a journal shows.
-use Rattle.std.specs.Prelude.{◌≡◌, ◌==◌, ◌⊎◌, ℕ, ◌+◌, ◌-◌, ◌≤◌, Bool, true, false, Option, None, Some, List, [], ◌∷◌, ◌++◌, codes, decimal, if◌then◌else◌, length, map, min, sum_by, ⊤}
+use Rattle.std.specs.Prelude.{◌≡◌, ◌==◌, ◌⊎◌, ℕ, ◌+◌, ◌-◌, ◌≤◌, Bool, true, false, Option, None, Some, List, [], ◌∷◌, ◌++◌, codes, if◌then◌else◌, length, map, min, sum_by, ⊤}
 use Rattle.std.specs.List.{list_any}
 use Rattle.al_base.specs.Outside.{Rose}
 use Rattle.al_base.specs.Readings.{Readings}

@@ -1,4 +1,4 @@
-use Rattle.std.proofs.Common.{arith, refl, sym, ap, ◌∙◌}
+use Rattle.std.proofs.Common.{arith, refl, ◌∙◌}
 use Rattle.std.proofs.lemmas.List.{length-map}
 use Rattle.al_serve.specs.Workers.{work_of}
 use Rattle.al_server.proofs.Hiring.{hired_more, popped, popped_len, pushed_len}

@@ -1,4 +1,4 @@
-use Rattle.std.proofs.Common.{◌≡◌, ◌-◌, ap, arith, length}
+use Rattle.std.proofs.Common.{arith, length}
 use Rattle.al_server.proofs.Ends.{told_so}
 use Rattle.al_server.proofs.serving.conclude.Goals as goal
 

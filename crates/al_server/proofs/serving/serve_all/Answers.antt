@@ -1,16 +1,11 @@
 use denote.Param.Send.{sendable}
-use Rattle.std.proofs.Common.{List, ap, arith, length, map, subst, sym, ◌∙◌}
+use Rattle.std.proofs.Common.{List, ap, arith, length, map}
 use Rattle.std.proofs.lemmas.List.{length-map}
-use Rattle.al_base.specs.Readings.{Readings}
-use Rattle.al_serve.specs.Doors.{DoorState}
 use Rattle.al_serve.specs.Workers.{IsReady, work_of}
-use Rattle.al_turn.specs.Passes.{AllPasses, Closed, PassState}
 use Rattle.al_server.proofs.Fresh.{all_back, all_ready}
 use Rattle.al_server.proofs.Sending.{office_send}
 use Rattle.al_server.proofs.Shifts.{served_fits, shift_ends, written_back, zip_worked}
 use Rattle.al_server.proofs.Workers.{each_of, have_passes, same_passes, served_most}
-use Rattle.al_server.specs.Crews.{AreDismissed, HavePasses, served_of}
-use Rattle.al_server.specs.Serving.{EndsShift}
 use Rattle.al_server.proofs.serving.serve_all.Goals as goal
 
 pub work_all-requires-after_bounds : goal.work_all-requires-after_bounds

@@ -1,4 +1,4 @@
-use Rattle.std.proofs.Common.{◌++◌, List, ℕ}
+use Rattle.std.proofs.Common.{◌++◌}
 use Rattle.std.specs.Prelude.{codes}
 use Rattle.al_http.proofs.FrontLaws.{appends_more, front_more}
 use Rattle.al_server.proofs.Fronts.{front_longer, on_fault, then_front}
