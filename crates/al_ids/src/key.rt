@@ -2,7 +2,8 @@ ghost use Rattle.al_ids.specs.Keys.{is_same_key, key_cmp};
 ghost use Rattle.std.proofs.Common.{rules};
 ghost use Rattle.std.specs.Cmp.Rules.{comparing};
 ghost use Rattle.std.specs.Cmp.{partial_order_from_own_ties};
-ghost use Rattle.std.specs.Ordering.{as_partial_cmp};
+ghost use Rattle.std.specs.Cmp.Lexicographic.{slice_cmp};
+ghost use Rattle.std.specs.Ordering.{as_partial_cmp, nat_cmp, ordering_then};
 ghost use Rattle.std.specs.Prelude.{◌≡◌, ◌↔◌, IsTrue};
 
 use crate::resource::Resource;
@@ -19,6 +20,30 @@ pub struct AlarmKey {
     pub type_id: TypeId,
     /// What tells alarms of one type apart that were known only when the device ran, mostly empty.
     pub qualifier: Text,
+}
+
+impl AlarmKey {
+    /// The order of keys. What comes after the first difference isn't looked at, since most keys of a list differ in their resources.
+    fn order(&self, other: &AlarmKey) -> Ordering
+        ensures { result ≡ key_cmp self.now other.now }
+    {
+        match self.resource.cmp(&other.resource) {
+            Ordering::Less => Ordering::Less,
+            Ordering::Equal => self.order_by_type(other),
+            Ordering::Greater => Ordering::Greater,
+        }
+    }
+
+    /// The order of keys of one resource.
+    fn order_by_type(&self, other: &AlarmKey) -> Ordering
+        ensures { result ≡ ordering_then (slice_cmp nat_cmp self.now.type_id other.now.type_id) (slice_cmp nat_cmp self.now.qualifier other.now.qualifier) }
+    {
+        match self.type_id.cmp(&other.type_id) {
+            Ordering::Less => Ordering::Less,
+            Ordering::Equal => self.qualifier.cmp(&other.qualifier),
+            Ordering::Greater => Ordering::Greater,
+        }
+    }
 }
 
 // Keys are ordered by the bytes of the resource, then of the type, then of the qualifier.
@@ -65,10 +90,7 @@ impl Ord for AlarmKey {
         ensures value { result ≡ key_cmp self.now other.now }
         ensures exact { (result ≡ Ordering.Equal) ↔ (self.now ≡ other.now) }
     {
-        self.resource
-            .cmp(&other.resource)
-            .then(self.type_id.cmp(&other.type_id))
-            .then(self.qualifier.cmp(&other.qualifier))
+        self.order(other)
     }
 }
 

@@ -7,5 +7,5 @@ pub returns-clause-exact : goal.returns-clause-exact
 returns-clause-exact c =
     let key = c.args.self.now in
     let other = c.args.other.now in
-    let value : c.then-2.result ≡ key_cmp key other = search rules in
+    let value : c.order.result ≡ key_cmp key other = search rules in
     (λ e. exact_key key other (sym value ∙ e), λ e. value ∙ equal_key key other e)
