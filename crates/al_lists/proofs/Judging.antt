@@ -81,11 +81,6 @@ none_by None false h = absurd (cc)
 none_by (Some x) true h = absurd (cc)
 none_by (Some x) false h = refl
 
--- what holds anyway holds of an error
-pub on_err : {T E : Type 0} (r : Result T E) (P : Type 0) → P → OnErr r P
-on_err (Ok x) P h = tt
-on_err (Err e) P h = h
-
 -- a change without refusals for what it is about, of whatever alarms there are
 pub record IsPlain (s : State) (time : ℕ) (request : Request) (changing : Bool) (reply : Reply) : Type 0 where
   pub exists : option_or (missing s request) (undeclared s request) ≡ None

@@ -44,12 +44,6 @@ abbrev pub room_for : Bool → Bool → ℕ → Option Refusal
 room_for alarms_fit shelves_fit time =
     option_or (unless alarms_fit AlarmsFull) (option_or (unless shelves_fit ShelvesFull) (unless (not (time == last_stamp)) ClockEnd))
 
--- The decision has an event, for which memory is taken.
-abbrev pub HasEvent : Decision → Type 0
-HasEvent (decisions.Refuse refusal) = ⊥
-HasEvent (decisions.Same reply) = ⊥
-HasEvent (decisions.Change event reply) = ⊤
-
 -- what a row, or the want of one, has against a status that is reported
 abbrev pub row_refusal : Option Row → Status → Option Refusal
 row_refusal row status = option_or (unless (is_some row) NotInInventory) (unless (allows_status row status) SeverityNotInInventory)

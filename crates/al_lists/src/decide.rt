@@ -1,46 +1,39 @@
 ghost use Rattle.std.specs.List.{filter};
 ghost use Rattle.std.specs.Option.{option_copied, option_map};
-ghost use Rattle.std.specs.Prelude.{◌≡◌, ◌≤◌, ◌&&◌, ◌||◌, ◌↔◌, ℕ, List, Option, IfOk, IfSome, IsTrue, None, OnErr, Some, is_some, length, nat_le, nat_lt, not, slice_get, true, unwrap_or};
+ghost use Rattle.std.specs.Prelude.{◌≡◌, ◌≤◌, ◌&&◌, ◌||◌, ◌↔◌, ℕ, List, Option, IsTrue, None, Some, is_some, length, nat_le, nat_lt, not, slice_get, true, unwrap_or};
 ghost use Rattle.al_base.specs.Limits.{most_alarms, most_shelves};
 ghost use Rattle.al_base.specs.declared.operator.OperatorState.{OperatorState};
-ghost use Rattle.al_model.specs.Decision.{changes, decision_of, entry_time, event_of, full, made_or_replaced, undeclared};
+ghost use Rattle.al_model.specs.Decision.{changes, decision_of, entry_time, event_of, full, made_or_replaced, shelf_place, undeclared};
 ghost use Rattle.al_model.specs.Sames.{same_rule};
 ghost use Rattle.al_model.specs.Step.{is_news};
 ghost use Rattle.al_model.specs.Validity.{IsValid};
 ghost use Rattle.al_shelf.specs.Places.{place_for, place_of, without};
 ghost use Rattle.al_types.specs.Inventories.{InventoryView};
 ghost use Rattle.al_alarms.specs.Views.{goes, loses};
-ghost use Rattle.al_lists.specs.Verdicts.{HasEvent, judged, room_for, row_refusal, verdict_at};
+ghost use Rattle.al_lists.specs.Verdicts.{judged, room_for, row_refusal, verdict_at};
 
 use crate::verdict::{Verdict, judge, room};
 use al_alarms::{Alarm, Contents, if_at};
-use al_base::{Copied, Severity, Stamp, Status, Text};
+use al_base::{Severity, Stamp, Status, Text};
 use al_ids::AlarmKey;
 use al_model::{Decision, Event, Refusal, Reply, Request, Side};
 use al_notify::{Mode, NotifyRule};
 use al_select::{CompressFilter, PurgeFilter};
 use al_shelf::{MAX_SHELVES, Shelf, Shelves, Spot};
 use al_types::Row;
-use std::alloc::{AllocError, Global};
 
 /// The most alarms that there are.
 const MAX_ALARMS: usize = 10_000;
 
-/// What is to become of a request at a reading of the clock. Memory is taken for the event of a change alone.
-pub(crate) fn decide(
-    alloc: Global,
-    contents: &Contents,
-    request: &Request,
-    now: Stamp,
-) -> Result<Decision, AllocError>
+/// What is to become of a request at a reading of the clock. It takes no memory: the event of a change has what the request has.
+pub(crate) fn decide(contents: &Contents, request: Request, now: Stamp) -> Decision
     requires { IsValid contents.now.state }
-    ensures ok { IfOk result (λ decision. decision ≡ decision_of contents.now.state request.now now) }
-    ensures err { OnErr result (HasEvent (decision_of contents.now.state request.now now)) }
+    ensures { result ≡ decision_of contents.now.state request now }
 {
-    match judge_request(contents, request, entry_time(contents, now)) {
-        Verdict::Refuse(refusal) => Ok(Decision::Refuse(refusal)),
-        Verdict::Same(reply) => Ok(Decision::Same(reply)),
-        Verdict::Change(reply) => Ok(Decision::Change(event_of(alloc, contents, request)?, reply)),
+    match judge_request(contents, &request, entry_time(contents, now)) {
+        Verdict::Refuse(refusal) => Decision::Refuse(refusal),
+        Verdict::Same(reply) => Decision::Same(reply),
+        Verdict::Change(reply) => Decision::Change(event_of(contents, request), reply),
     }
 }
 
@@ -354,55 +347,26 @@ pub(crate) fn judge_installation(contents: &Contents) -> Verdict
 
 // ---- events
 
-/// The event by which a request is carried out.
-fn event_of(alloc: Global, contents: &Contents, request: &Request) -> Result<Event, AllocError>
+/// The event by which a request is carried out. It has what the request has, uncopied.
+fn event_of(contents: &Contents, request: Request) -> Event
     requires { IsValid contents.now.state }
-    ensures { IfOk result (λ event. event ≡ event_of contents.now.state request.now) }
+    ensures { result ≡ event_of contents.now.state request }
 {
-    Ok(match request {
-        Request::Report { key, status, text } => Event::Report {
-            key: key.copy(alloc)?,
-            status: *status,
-            text: text.copy(alloc)?,
-        },
-        Request::Operate {
-            key,
-            state,
-            operator,
-            text,
-        } => Event::Operate {
-            key: key.copy(alloc)?,
-            state: *state,
-            operator: operator.copy(alloc)?,
-            text: text.copy(alloc)?,
-        },
-        Request::SetMax(max) => Event::SetMax(*max),
-        Request::SetMode(mode) => Event::SetNotify(NotifyRule {
-            mode: *mode,
-            level: contents.rule().level,
-        }),
-        Request::SetLevel(level) => Event::SetNotify(NotifyRule {
-            mode: contents.rule().mode,
-            level: *level,
-        }),
-        Request::CreateShelf { shelf, spot } | Request::PutShelf { shelf, spot } =>
-            Event::PutShelf {
-                at: place_for(contents, shelf, spot),
-                shelf: shelf.copy(alloc)?,
-            },
-        Request::DropShelf { name } => Event::DropShelf {
-            name: name.copy(alloc)?,
-        },
-        Request::Purge { side, filter } => Event::Purge {
-            side: *side,
-            filter: filter.copy(alloc)?,
-        },
-        Request::Compress { side, filter } => Event::Compress {
-            side: *side,
-            filter: filter.copy(alloc)?,
-        },
-        Request::Install(inventory) => Event::Install(inventory.copy(alloc)?),
-    })
+    let place = shelf_place(contents, &request);
+    request.into_event(contents.rule(), place)
+}
+
+/// Where the shelf of a request is to stand, if it puts one.
+fn shelf_place(contents: &Contents, request: &Request) -> u8
+    requires { IsValid contents.now.state }
+    ensures { result ≡ shelf_place contents.now.state request.now }
+{
+    match request {
+        Request::CreateShelf { shelf, spot } | Request::PutShelf { shelf, spot } => place_for(
+            contents, shelf, spot,
+        ),
+        _ => 0,
+    }
 }
 
 /// The position of the spot, the first where its point isn't there.

@@ -1,5 +1,5 @@
 ghost use Rattle.std.specs.Option.{option_copied, option_map};
-ghost use Rattle.std.specs.Prelude.{◌≡◌, ◌+◌, ◌<◌, ◌^◌, ◌↔◌, IfOk, IsTrue, OnErr, length, slice_get};
+ghost use Rattle.std.specs.Prelude.{◌≡◌, ◌+◌, ◌<◌, ◌^◌, ◌↔◌, IfOk, IsTrue, length, slice_get};
 ghost use Rattle.al_model.specs.Alarms.{alarm_of};
 ghost use Rattle.al_model.specs.Decision.{decision_of};
 ghost use Rattle.al_model.specs.History.{Fits};
@@ -8,7 +8,6 @@ ghost use Rattle.al_model.specs.State.{listed, shelved, start};
 ghost use Rattle.al_model.specs.Summary.{has_shelved, summary_of};
 ghost use Rattle.al_model.specs.Validity.{IsValid};
 ghost use Rattle.al_lists.specs.Prepared.{IsPreparedFor};
-ghost use Rattle.al_lists.specs.Verdicts.{HasEvent};
 
 use crate::decide::decide;
 use crate::fits::fits;
@@ -171,12 +170,11 @@ impl Tables {
         }
     }
 
-    /// What is to become of a request at a reading of the clock. Memory is taken for the event of a change alone.
-    pub fn decide(&self, request: &Request, now: Stamp) -> Result<Decision, AllocError>
-        ensures ok { IfOk result (λ decision. decision ≡ decision_of self.now.state request.now now) }
-        ensures err { OnErr result (HasEvent (decision_of self.now.state request.now now)) }
+    /// What is to become of a request at a reading of the clock. It takes no memory: the event of a change has what the request has.
+    pub fn decide(&self, request: Request, now: Stamp) -> Decision
+        ensures { result ≡ decision_of self.now.state request now }
     {
-        decide(self.alloc, &self.contents, request, now)
+        decide(&self.contents, request, now)
     }
 
     /// Whether the entry may come next. It takes no memory.

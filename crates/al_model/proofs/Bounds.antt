@@ -1,7 +1,7 @@
 -- How many entries, alarms and shelves there are.
-use Rattle.std.proofs.Common.{◌≡◌, ◌≢◌, ℕ, ◌+◌, ◌<◌, ◌≤◌, min, zero, suc, Bool, true, false, cond, not, ◌||◌, ◌==◌, Option, None, Some, List, [], ◌∷◌, ◌++◌, map, length, take, refl, sym, ap, ◌∙◌, subst, arith, length-append, length-take}
-use Rattle.std.specs.Bool.{⊤, nat_le, nat_lt}
-use Rattle.std.specs.List.{AllByRecursion, AllPairs, cons_option, filter, filter_map, insert, slice_get}
+use Rattle.std.proofs.Common.{◌≡◌, ◌≢◌, ℕ, ◌+◌, ◌≤◌, zero, suc, Bool, true, false, cond, not, ◌||◌, ◌==◌, Option, None, Some, List, [], ◌∷◌, length, refl, sym, ap, ◌∙◌, arith, length-append, length-take}
+use Rattle.std.specs.Bool.{nat_le, nat_lt}
+use Rattle.std.specs.List.{AllByRecursion, cons_option, filter, filter_map, slice_get}
 use Rattle.std.specs.Option.{IfSome, is_none, is_some, option_map, option_or}
 use Rattle.std.specs.Ordering.{is_lt, is_gt}
 use Rattle.std.specs.declared.cmp.Ordering.{Ordering}
@@ -10,8 +10,7 @@ use Rattle.std.proofs.lemmas.List.Edits.{length-insert}
 use Rattle.std.proofs.lemmas.List.{length-map}
 use Rattle.std.proofs.lemmas.Bool.Decides.{Decides-eqb, Decides-ltb}
 use Rattle.std.proofs.lemmas.Bool.{leb-true}
-use Rattle.std.proofs.lemmas.List.Kept.{AllPairs-filter}
-use Rattle.std.proofs.lemmas.Option.{same_Some, slice_get_within}
+use Rattle.std.proofs.lemmas.Option.{slice_get_within}
 use Rattle.al_base.specs.Limits.{last_stamp}
 use Rattle.al_base.specs.declared.severity.Severity.{Severity}
 use Rattle.al_base.specs.declared.severity.Status.{Status}
@@ -20,10 +19,10 @@ use Rattle.al_base.specs.declared.text.Text.{Text}
 use Rattle.al_ids.specs.Keys.{key_cmp}
 use Rattle.al_ids.specs.declared.key.AlarmKey.{AlarmKey}
 use Rattle.al_shelf.proofs.Puts.{others_sound, put_sound}
-use Rattle.al_shelf.specs.Places.{AreShelves, is_named, without}
+use Rattle.al_shelf.specs.Places.{AreShelves, without}
 use Rattle.al_shelf.specs.declared.shelf.Shelf.{Shelf}
-use Rattle.al_shelf.specs.declared.spot.Spot.TheVariants.{First, After}
-use Rattle.al_model.specs.Alarms.{alarm_of, bounded, is_of, move_entry, new_alarm, newest, reported, with_newcomer, with_operator, with_status}
+use Rattle.al_shelf.specs.declared.spot.Spot.TheVariants.{After}
+use Rattle.al_model.specs.Alarms.{alarm_of, bounded, is_of, move_entry, new_alarm, newest, reported, with_newcomer, with_operator}
 use Rattle.al_model.specs.Decision.{full, unless}
 use Rattle.al_model.specs.Events.{after_event, fate, newcomer, set_by}
 use Rattle.al_model.specs.History.{Fits, asked_for, asked_shelf}
@@ -40,7 +39,6 @@ use Rattle.al_model.specs.declared.request.Request.{Request}
 use Rattle.al_model.specs.declared.request.Request.TheVariants as requests
 use Rattle.al_model.proofs.Fitting.{fitting}
 use Rattle.al_model.proofs.Lifting.{each_after}
-use Rattle.al_model.proofs.Newest.{KeepsHistories, keeps_histories}
 use Rattle.al_model.proofs.Tools.{either, if_weaker, none_of_two}
 
 -- ---- histories

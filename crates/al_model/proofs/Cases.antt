@@ -1,11 +1,11 @@
 -- Worked cases of the rules, by computation.
-use Rattle.std.proofs.Common.{◌≡◌, ℕ, zero, suc, ◌+◌, true, Option, None, Some, List, [], ◌∷◌, length, drop, refl, map}
+use Rattle.std.proofs.Common.{◌≡◌, ℕ, zero, suc, ◌+◌, true, None, Some, List, [], ◌∷◌, length, drop, refl, map}
 use Rattle.std.specs.Prelude.{codes}
 use Rattle.std.specs.Str.{chars}
 use Rattle.al_base.specs.declared.operator.OperatorState.TheVariants.{None0, Ack, Closed, Shelved, UnShelved}
 use Rattle.al_base.specs.declared.operator.OperatorState.{OperatorState}
 use Rattle.al_base.specs.declared.severity.Severity.{Severity}
-use Rattle.al_base.specs.declared.severity.Severity.TheVariants.{Indeterminate, Warning, Minor, Major, Critical}
+use Rattle.al_base.specs.declared.severity.Severity.TheVariants.{Warning, Minor, Major, Critical}
 use Rattle.al_base.specs.declared.severity.Status.{Status}
 use Rattle.al_base.specs.declared.severity.Status.TheVariants.{Cleared, Active}
 use Rattle.al_base.specs.declared.text.Text.{Text}
@@ -22,7 +22,7 @@ use Rattle.al_shelf.specs.Taking.{takes}
 use Rattle.al_shelf.specs.declared.shelf.Shelf.{Shelf}
 use Rattle.al_types.specs.Inventories.{InventoryView, derives_from}
 use Rattle.al_model.specs.History.{replay}
-use Rattle.al_model.specs.State.{State, AlarmState, listed, shelved, start}
+use Rattle.al_model.specs.State.{AlarmState, shelved}
 use Rattle.al_model.specs.Step.{step}
 use Rattle.al_model.specs.declared.entry.Entry.{Entry}
 use Rattle.al_model.specs.declared.entry.OperatorEntry.{OperatorEntry}

@@ -1,23 +1,22 @@
 -- A purge answers how many alarms go, a compression how many lose an entry.
-use Rattle.std.proofs.Common.{◌≡◌, ℕ, ◌+◌, ◌<◌, ◌≤◌, zero, suc, Bool, true, false, cond, ◌&&◌, Option, None, Some, List, [], ◌∷◌, map, length, take, refl, sym, ap, ◌∙◌, subst, arith, length-take}
+use Rattle.std.proofs.Common.{◌≡◌, ℕ, ◌+◌, suc, Bool, true, false, cond, ◌&&◌, Option, None, Some, List, [], ◌∷◌, map, length, take, refl, sym, ap, ◌∙◌, arith, length-take}
 use Rattle.std.specs.Bool.{nat_lt, one_answer}
 use Rattle.std.specs.List.{count_by, cons_option, filter, filter_map, list_any, zip}
 use Rattle.std.specs.Option.{option_map}
 use Rattle.std.proofs.lemmas.Bool.Decides.{Decides-ltb}
 use Rattle.std.proofs.lemmas.List.Sums.{length-filter}
-use Rattle.al_select.specs.Filters.{compress_takes, purge_takes}
+use Rattle.al_select.specs.Filters.{compress_takes}
 use Rattle.al_select.specs.declared.compress.CompressFilter.{CompressFilter}
 use Rattle.al_select.specs.declared.purge.PurgeFilter.{PurgeFilter}
-use Rattle.al_model.specs.Alarms.{bounded, facts_of}
+use Rattle.al_model.specs.Alarms.{bounded}
 use Rattle.al_shelf.specs.Places.{place_of}
 use Rattle.al_model.specs.Decision.{changes, decision_of, entry_of, entry_time, event_of, made_or_replaced, reply_of}
-use Rattle.al_model.specs.Events.{after_event, fate, newcomer, set_by, touches}
+use Rattle.al_model.specs.Events.{after_event, fate, touches}
 use Rattle.al_model.specs.Laws.{lost_entry}
 use Rattle.al_model.specs.State.{AlarmState, State, is_on}
 use Rattle.al_model.specs.Step.{moved, step}
 use Rattle.al_model.specs.declared.decision.Decision.TheVariants.{Same, Change}
-use Rattle.al_model.specs.declared.decision.Reply.TheVariants.{Done, Made, Replaced, Count}
-use Rattle.al_model.specs.declared.decision.Reply.{Reply}
+use Rattle.al_model.specs.declared.decision.Reply.TheVariants.{Count}
 use Rattle.al_model.specs.declared.entry.Entry.{Entry}
 use Rattle.al_model.specs.declared.event.Event.{Event}
 use Rattle.al_model.specs.declared.event.Event.TheVariants as events

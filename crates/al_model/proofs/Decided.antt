@@ -1,31 +1,27 @@
 -- What is decided on fits.
-use Rattle.std.proofs.Common.{◌≡◌, ◌≢◌, ℕ, ◌+◌, ◌<◌, ◌≤◌, ◌^◌, max, zero, suc, Bool, true, false, cond, not, ◌==◌, Option, None, Some, List, [], ◌∷◌, length, get_or, refl, sym, ap, ◌∙◌, subst, arith, inl, inr}
+use Rattle.std.proofs.Common.{◌≡◌, ◌≢◌, ℕ, ◌<◌, ◌≤◌, ◌^◌, max, zero, suc, Bool, true, false, cond, not, Option, None, Some, List, length, get_or, refl, sym, ap, ◌∙◌, subst, arith}
 use Rattle.std.specs.Bool.{nat_lt}
 use Rattle.std.specs.List.{AllPairs, position_or_len, slice_get}
-use Rattle.std.specs.Option.{IfSome, is_some, option_map, option_or, unwrap_or}
-use Rattle.std.proofs.lemmas.Bool.{cases_lt}
+use Rattle.std.specs.Option.{is_some, option_map, option_or, unwrap_or}
 use Rattle.std.proofs.lemmas.Bool.Decides.{Decides-ltb}
 use Rattle.std.proofs.lemmas.List.Kept.{AllPairs-filter}
 use Rattle.std.proofs.lemmas.List.Sums.{position_or_len_is}
-use Rattle.std.proofs.lemmas.Option.{get_or_from_slice_get, same_Some, slice_get-get_or, slice_get_within}
+use Rattle.std.proofs.lemmas.Option.{get_or_from_slice_get, slice_get-get_or, slice_get_within}
 use Rattle.al_base.specs.Limits.{last_stamp}
 use Rattle.al_base.specs.declared.severity.Severity.{Severity}
-use Rattle.al_base.specs.declared.text.Text.{Text}
 use Rattle.al_notify.specs.declared.rule.Mode.{Mode}
-use Rattle.al_notify.specs.declared.rule.NotifyRule.{NotifyRule}
 use Rattle.al_shelf.proofs.Puts.{spot_within}
 use Rattle.al_shelf.specs.Places.{AreShelves, is_named, place_for, place_of, without}
 use Rattle.al_shelf.specs.declared.shelf.Shelf.{Shelf}
 use Rattle.al_shelf.specs.declared.spot.Spot.{Spot}
-use Rattle.al_shelf.specs.declared.spot.Spot.TheVariants.{First, Last, Before, After, Keep}
+use Rattle.al_shelf.specs.declared.spot.Spot.TheVariants.{First, After}
 use Rattle.al_model.specs.Decision.{changes, decided, decision_of, entry_of, entry_time, event_of, full, missing, reply_of, undeclared, unless}
-use Rattle.al_model.specs.History.{Fits, asked_for, asked_rule, asked_shelf}
-use Rattle.al_model.specs.Limits.{IsEntryWithin, IsEventWithin, IsPutWithin, IsRequestWithin, IsShelfWithin}
+use Rattle.al_model.specs.History.{Fits, asked_for}
+use Rattle.al_model.specs.Limits.{IsEventWithin, IsPutWithin, IsRequestWithin, IsShelfWithin}
 use Rattle.al_model.specs.Sames.{same_mode}
 use Rattle.al_model.specs.State.{State}
 use Rattle.al_model.specs.declared.decision.Decision.TheVariants.{Change}
-use Rattle.al_model.specs.declared.decision.Refusal.TheVariants.{NoPoint, ShelfExists}
-use Rattle.al_model.specs.declared.decision.Refusal.{Refusal}
+use Rattle.al_model.specs.declared.decision.Refusal.TheVariants.{NoPoint}
 use Rattle.al_model.specs.declared.decision.Reply.{Reply}
 use Rattle.al_model.specs.declared.event.Event.{Event}
 use Rattle.al_model.specs.declared.event.Event.TheVariants as events
@@ -35,7 +31,7 @@ use Rattle.al_model.proofs.Bounds.{has_room, length_filter}
 use Rattle.al_model.proofs.Fitting.{change_is, changes_to, time_stays}
 use Rattle.al_model.proofs.Moves.{same_is, same_itself}
 use Rattle.al_model.proofs.Sames.{decides_mode}
-use Rattle.al_model.proofs.Tools.{either, none_of_two}
+use Rattle.al_model.proofs.Tools.{none_of_two}
 
 -- ---- the asked request
 

@@ -1,12 +1,10 @@
 -- What it tells of an entry that it fits.
-use Rattle.std.proofs.Common.{◌≡◌, ◌≢◌, ◌==◌, ℕ, ◌+◌, ◌<◌, ◌≤◌, max, Bool, true, false, Option, None, Some, refl, sym, ap, ◌∙◌, subst, arith}
-use Rattle.std.specs.Bool.{nat_le, nat_lt}
-use Rattle.std.specs.Option.{is_none, is_some, option_or}
+use Rattle.std.proofs.Common.{◌≡◌, ℕ, ◌<◌, Bool, true, false, Option, None, Some, refl, subst, arith}
+use Rattle.std.specs.Option.{option_or}
 use Rattle.al_model.specs.Decision.{changes, decided, decision_of, entry_time, event_of, full, missing, reply_of, undeclared}
-use Rattle.al_model.specs.History.{Fits, asked_for}
+use Rattle.al_model.specs.History.{Fits}
 use Rattle.al_model.specs.State.{State}
-use Rattle.al_model.specs.declared.decision.Decision.TheVariants.{Refuse, Same, Change}
-use Rattle.al_model.specs.declared.decision.Decision.{Decision}
+use Rattle.al_model.specs.declared.decision.Decision.TheVariants.{Change}
 use Rattle.al_model.specs.declared.decision.Refusal.{Refusal}
 use Rattle.al_model.specs.declared.decision.Reply.{Reply}
 use Rattle.al_model.specs.declared.entry.Entry.{Entry}

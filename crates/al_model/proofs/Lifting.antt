@@ -1,5 +1,5 @@
 -- A fact on each alarm, over a step; and a fact on the state, over a legal history.
-use Rattle.std.proofs.Common.{ℕ, Option, None, Some, List, [], ◌∷◌, ◌++◌}
+use Rattle.std.proofs.Common.{Option, None, Some, List, [], ◌∷◌}
 use Rattle.std.specs.List.{AllByRecursion, filter, filter_map}
 use Rattle.std.specs.Option.{IfSome}
 use Rattle.std.specs.Ordering.{is_lt, is_gt}

@@ -1,8 +1,8 @@
 -- Alarms as a list: what stays where nothing touches any, and what changes where something does.
-use Rattle.std.proofs.Common.{◌≡◌, ◌≢◌, ℕ, ◌+◌, ◌<◌, ◌≤◌, Bool, true, false, cond, ◌&&◌, ◌||◌, Option, None, Some, List, [], ◌∷◌, ◌++◌, map, length, refl, sym, ap, ◌∙◌, subst, arith}
-use Rattle.std.specs.List.{AllByRecursion, cons_option, filter, filter_map, find, list_any}
-use Rattle.std.specs.Option.{IfSome, is_some, option_map}
-use Rattle.al_model.proofs.Tools.{either, none_true}
+use Rattle.std.proofs.Common.{◌≡◌, ◌≢◌, ◌≤◌, Bool, true, false, cond, ◌&&◌, ◌||◌, Option, None, Some, List, [], ◌∷◌, ◌++◌, map, length, refl, ap, ◌∙◌, subst, arith}
+use Rattle.std.specs.List.{AllByRecursion, cons_option, filter_map, find, list_any}
+use Rattle.std.specs.Option.{is_some, option_map}
+use Rattle.al_model.proofs.Tools.{none_true}
 
 pub map-filter_map : {X Y Z : Type 0} (g : Y → Z) (f : X → Option Y) (xs : List X) → map g (filter_map f xs) ≡ filter_map (λ x. option_map g (f x)) xs
 map-filter_map g f [] = refl

@@ -1,5 +1,5 @@
 -- An alarm is on a shelf exactly where its newest operator entry says so.
-use Rattle.std.proofs.Common.{◌≡◌, ℕ, Bool, true, false, cond, ◌&&◌, Option, None, Some, List, [], ◌∷◌, refl, sym, ap, ◌∙◌, subst}
+use Rattle.std.proofs.Common.{◌≡◌, ℕ, Bool, true, false, ◌&&◌, Option, None, Some, refl, sym, ap, ◌∙◌, subst}
 use Rattle.std.specs.Bool.{⊤}
 use Rattle.std.specs.List.{AllByRecursion}
 use Rattle.std.specs.Option.{IfSome, is_some, option_map}
@@ -23,7 +23,6 @@ use Rattle.al_model.specs.declared.decision.Refusal.TheVariants.{NoAlarm}
 use Rattle.al_model.specs.declared.entry.Entry.{Entry}
 use Rattle.al_model.specs.declared.event.Event.{Event}
 use Rattle.al_model.specs.declared.event.Event.TheVariants as events
-use Rattle.al_model.specs.declared.request.Request.{Request}
 use Rattle.al_model.specs.declared.request.Request.TheVariants as requests
 use Rattle.al_model.proofs.Fitting.{fitting}
 use Rattle.al_model.proofs.Lifting.{each_after}

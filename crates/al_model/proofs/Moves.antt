@@ -1,22 +1,21 @@
 -- What moves an alarm, and what leaves it.
-use Rattle.std.proofs.Common.{◌≡◌, ℕ, Bool, true, false, cond, Option, None, Some, List, refl, sym, ap, ◌∙◌, subst}
-use Rattle.std.specs.Bool.{◌==◌}
-use Rattle.std.specs.Cmp.Lexicographic.{bytes_decides, pointwise}
+use Rattle.std.proofs.Common.{◌≡◌, ℕ, true, cond, Option, None, Some, refl, sym, ap, ◌∙◌, subst}
+use Rattle.std.specs.Cmp.Lexicographic.{bytes_decides}
 use Rattle.std.specs.Option.{IfSome}
 use Rattle.std.specs.Ordering.{is_eq}
 use Rattle.std.specs.declared.cmp.Ordering.{Ordering}
 use Rattle.std.specs.declared.cmp.Ordering.TheVariants.{Less, Equal, Greater}
-use Rattle.al_base.specs.declared.operator.OperatorState.TheVariants.{Shelved, UnShelved}
+use Rattle.al_base.specs.declared.operator.OperatorState.TheVariants.{Shelved}
 use Rattle.al_base.specs.declared.severity.Status.{Status}
 use Rattle.al_base.specs.declared.severity.Status.TheVariants.{Cleared, Active}
 use Rattle.al_base.specs.declared.text.Text.{Text}
 use Rattle.al_ids.proofs.Keyed.{exact_key}
 use Rattle.al_ids.specs.Keys.{key_cmp}
 use Rattle.al_ids.specs.declared.key.AlarmKey.{AlarmKey}
-use Rattle.al_select.specs.Filters.{compress_takes, purge_takes, same_text}
-use Rattle.al_model.specs.Alarms.{bounded, facts_of, is_of, move_entry, own_entry, reported, says_more, with_operator}
+use Rattle.al_select.specs.Filters.{same_text}
+use Rattle.al_model.specs.Alarms.{bounded, is_of, move_entry, own_entry, reported, with_operator}
 use Rattle.al_model.specs.Events.{fate}
-use Rattle.al_model.specs.State.{AlarmState, State, is_on, shelf_name}
+use Rattle.al_model.specs.State.{AlarmState, State, shelf_name}
 use Rattle.al_model.specs.Step.{moved}
 use Rattle.al_model.specs.declared.entry.OperatorEntry.{OperatorEntry}
 use Rattle.al_model.specs.declared.event.Event.{Event}

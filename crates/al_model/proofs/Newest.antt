@@ -1,13 +1,11 @@
 -- The newest status entry of an alarm says what the alarm does.
-use Rattle.std.proofs.Common.{◌≡◌, ℕ, ◌≤◌, zero, suc, true, false, Option, None, Some, List, [], ◌∷◌, take, refl, sym, ap, ◌∙◌, subst, arith}
+use Rattle.std.proofs.Common.{ℕ, ◌≤◌, zero, suc, Option, None, Some, List, [], ◌∷◌, refl, arith}
 use Rattle.std.specs.Bool.{⊤}
 use Rattle.std.specs.List.{AllByRecursion}
 use Rattle.std.specs.Option.{IfSome, is_some}
-use Rattle.al_base.specs.declared.severity.Severity.{Severity}
 use Rattle.al_base.specs.declared.severity.Status.{Status}
 use Rattle.al_base.specs.declared.severity.Status.TheVariants.{Cleared, Active}
 use Rattle.al_base.specs.declared.text.Text.{Text}
-use Rattle.al_ids.specs.declared.key.AlarmKey.{AlarmKey}
 use Rattle.al_model.specs.Alarms.{alarm_of, bounded, is_of, move_entry, new_alarm, newest, reported, status_of, with_operator}
 use Rattle.al_model.specs.Events.{after_event, fate, newcomer, set_by}
 use Rattle.al_model.specs.History.{Fits}

@@ -1,5 +1,5 @@
 -- What a decision refuses for, and what it answers.
-use Rattle.std.proofs.Common.{◌≡◌, ◌≢◌, ℕ, Bool, true, false, not, ◌&&◌, ◌||◌, ◌==◌, length, Option, None, Some, refl, sym, ap, ◌∙◌, subst, inl, inr}
+use Rattle.std.proofs.Common.{◌≡◌, ◌≢◌, ℕ, Bool, true, false, not, ◌&&◌, ◌||◌, ◌==◌, length, Option, None, Some, refl, ap, ◌∙◌, subst, inl, inr}
 use Rattle.std.specs.Bool.{⊤, nat_le, nat_lt}
 use Rattle.std.specs.Option.{IfSome, is_none, is_some, option_or}
 use Rattle.std.specs.Prelude.{◌⊎◌}
@@ -12,14 +12,12 @@ use Rattle.al_model.specs.Decision.{allows_status, changes, decided, decision_of
 use Rattle.al_model.specs.Laws.{IsRefused, IsSame}
 use Rattle.al_model.specs.State.{State, inventory_of, is_listed}
 use Rattle.al_model.specs.declared.decision.Decision.TheVariants.{Refuse, Same, Change}
-use Rattle.al_model.specs.declared.decision.Decision.{Decision}
 use Rattle.al_model.specs.declared.decision.Refusal.{Refusal}
 use Rattle.al_model.specs.declared.decision.Refusal.TheVariants.{NoAlarm, NoShelf, NoPoint, ShelfExists, Installed, NotInInventory, SeverityNotInInventory, AlarmsFull, ShelvesFull, ClockEnd, JournalFull, Disk, Memory}
 use Rattle.al_model.specs.declared.decision.Reply.{Reply}
 use Rattle.al_model.specs.declared.event.Event.{Event}
 use Rattle.al_model.specs.declared.request.Request.{Request}
 use Rattle.al_model.specs.declared.request.Request.TheVariants as requests
-use Rattle.al_model.proofs.Tools.{none_of_two}
 
 -- ---- the order of the five points
 

@@ -1,8 +1,8 @@
 -- A repeat leaves all but the time.
-use Rattle.std.proofs.Common.{◌≡◌, ℕ, ◌+◌, ◌<◌, ◌≤◌, zero, suc, Bool, true, false, cond, not, ◌&&◌, ◌||◌, ◌==◌, Option, None, Some, List, [], ◌∷◌, ◌++◌, map, length, take, drop, refl, sym, ap, ◌∙◌, subst, arith, length-take, take-append-drop}
+use Rattle.std.proofs.Common.{◌≡◌, ℕ, ◌≤◌, Bool, true, false, cond, not, ◌&&◌, ◌||◌, Option, None, Some, List, [], ◌∷◌, ◌++◌, map, length, take, drop, refl, sym, ap, ◌∙◌, arith, length-take, take-append-drop}
 use Rattle.std.specs.Bool.{⊤, nat_lt}
 use Rattle.std.specs.List.{AllByRecursion, cons_option, filter, filter_map, insert, list_any}
-use Rattle.std.specs.Option.{IfSome, is_some, option_map, option_map_or}
+use Rattle.std.specs.Option.{IfSome, is_some}
 use Rattle.std.specs.Ordering.{is_eq}
 use Rattle.std.proofs.lemmas.Bool.Decides.{Decides-eqb, Decides-ltb}
 use Rattle.al_base.specs.Names.{rank_of}
@@ -12,15 +12,14 @@ use Rattle.al_base.specs.declared.severity.Status.TheVariants.{Cleared, Active}
 use Rattle.al_base.specs.declared.text.Text.{Text}
 use Rattle.al_ids.specs.Keys.{key_cmp}
 use Rattle.al_ids.specs.declared.key.AlarmKey.{AlarmKey}
-use Rattle.al_select.specs.Filters.{Facts, compress_takes, is_older, purge_takes, same_text}
+use Rattle.al_select.specs.Filters.{Facts, compress_takes, purge_takes, same_text}
 use Rattle.al_select.specs.declared.purge.PurgeFilter.{PurgeFilter}
 use Rattle.al_shelf.specs.Places.{is_named, without}
 use Rattle.al_shelf.specs.declared.shelf.Shelf.{Shelf}
-use Rattle.al_model.specs.Alarms.{alarm_of, bounded, facts_of, is_of, move_entry, new_alarm, newest, reported, says_more, with_newcomer, with_status}
+use Rattle.al_model.specs.Alarms.{alarm_of, bounded, facts_of, is_of, move_entry, new_alarm, reported, says_more, with_newcomer}
 use Rattle.al_model.specs.Decision.{changes, sets}
-use Rattle.al_model.specs.Events.{after_event, fate, moves, newcomer, set_by, touches}
+use Rattle.al_model.specs.Events.{after_event, fate, newcomer, set_by, touches}
 use Rattle.al_model.specs.Laws.{IsRepeatable}
-use Rattle.al_model.specs.Sames.{same_installed, same_rule, same_shelves}
 use Rattle.al_model.specs.State.{AlarmState, State, is_on, shelf_name}
 use Rattle.al_model.specs.Step.{IsSameButTime, moved, step}
 use Rattle.al_model.specs.declared.entry.Entry.{Entry}
@@ -33,7 +32,7 @@ use Rattle.al_model.proofs.Living.{any_map, found}
 use Rattle.al_model.proofs.Moves.{fate_key, moved_key, no_move, same_itself, unmoved}
 use Rattle.al_model.proofs.Sameness.{found_in, same_leaves, set_nothing}
 use Rattle.al_model.proofs.Sames.{decides_installed, decides_max, decides_rule, decides_shelves}
-use Rattle.al_model.proofs.Tools.{either, none_true}
+use Rattle.al_model.proofs.Tools.{either}
 
 -- ---- tests
 

@@ -1,16 +1,15 @@
 -- A step leaves all but the time exactly where its event changes nothing.
-use Rattle.std.proofs.Common.{◌≡◌, ◌≢◌, ℕ, ◌+◌, ◌<◌, ◌≤◌, Bool, true, false, cond, not, ◌&&◌, ◌||◌, ◌==◌, Option, None, Some, List, [], ◌∷◌, ◌++◌, map, refl, sym, ap, ◌∙◌, subst, arith}
-use Rattle.std.specs.List.{AllByRecursion, filter, filter_map, find, list_any}
+use Rattle.std.proofs.Common.{◌≡◌, ◌≢◌, ℕ, ◌<◌, Bool, true, false, cond, not, ◌&&◌, ◌||◌, ◌==◌, Option, None, Some, List, map, refl, sym, ap, ◌∙◌, arith}
+use Rattle.std.specs.List.{AllByRecursion, filter, filter_map, list_any}
 use Rattle.std.specs.Option.{IfSome, is_some, option_eq, option_map, option_to_list}
 use Rattle.std.specs.Ordering.{is_eq, is_gt, is_lt}
-use Rattle.al_base.specs.declared.severity.Severity.{Severity}
 use Rattle.al_base.specs.declared.severity.Status.{Status}
 use Rattle.al_base.specs.declared.severity.Status.TheVariants.{Cleared, Active}
 use Rattle.al_base.specs.declared.text.Text.{Text}
 use Rattle.al_ids.proofs.Keyed.{equal_key}
 use Rattle.al_ids.specs.Keys.{key_cmp}
 use Rattle.al_ids.specs.declared.key.AlarmKey.{AlarmKey}
-use Rattle.al_notify.specs.Logs.{LogView, logged}
+use Rattle.al_notify.specs.Logs.{LogView}
 use Rattle.al_notify.specs.Rules.{sends}
 use Rattle.al_notify.specs.declared.note.NoteBody.{NoteBody}
 use Rattle.al_notify.specs.declared.note.NoteBody.TheVariants as notes
@@ -19,14 +18,14 @@ use Rattle.al_model.specs.Decision.{changes, sets}
 use Rattle.al_model.specs.Events.{after_event, fate, newcomer, set_by, touches}
 use Rattle.al_model.specs.Sames.{same_installed, same_rule, same_shelves}
 use Rattle.al_model.specs.State.{AlarmState, State, is_listed, is_on, shelf_name}
-use Rattle.al_model.specs.Step.{IsSameButTime, built, is_news, log_after, moved, note_of, step, time_of_change, touches_side}
+use Rattle.al_model.specs.Step.{IsSameButTime, built, is_news, log_after, moved, note_of, step, touches_side}
 use Rattle.al_model.specs.declared.entry.Entry.{Entry}
 use Rattle.al_model.specs.declared.event.Event.{Event}
 use Rattle.al_model.specs.declared.event.Event.TheVariants as events
 use Rattle.al_model.specs.declared.event.Side.{Side}
 use Rattle.al_model.specs.declared.event.Side.TheVariants as sides
 use Rattle.al_model.proofs.Living.{all_live, any_append, any_map, found, found_fails, map-filter_map, none_of_both, none_touched}
-use Rattle.al_model.proofs.Moves.{fate_key, moved_key}
+use Rattle.al_model.proofs.Moves.{moved_key}
 use Rattle.al_model.proofs.Sames.{decides_installed, decides_max, decides_rule, decides_shelves}
 use Rattle.al_model.proofs.Tools.{either, is_none_at, none_true, not_false}
 use Rattle.al_model.proofs.Touched.{life, touched, untouched}

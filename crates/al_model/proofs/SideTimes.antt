@@ -1,21 +1,19 @@
 -- The time of a side moves exactly where the alarms of the side do.
-use Rattle.std.proofs.Common.{◌≡◌, ◌≢◌, ℕ, ◌+◌, ◌<◌, ◌≤◌, Bool, true, false, cond, not, ◌&&◌, ◌||◌, Option, None, Some, List, [], ◌∷◌, ◌++◌, map, refl, sym, ap, ◌∙◌, subst, arith}
-use Rattle.std.specs.List.{AllByRecursion, cons_option, filter, filter_map, find, list_any}
+use Rattle.std.proofs.Common.{◌≡◌, ◌≢◌, ℕ, ◌<◌, Bool, true, false, cond, not, ◌&&◌, ◌||◌, Option, None, Some, List, [], ◌∷◌, ◌++◌, map, refl, sym, ap, ◌∙◌}
+use Rattle.std.specs.List.{AllByRecursion, filter, filter_map, list_any}
 use Rattle.std.specs.List.Sorted.{IsStrictlySortedBy}
 use Rattle.std.specs.Option.{IfSome, is_some, option_map, option_to_list}
 use Rattle.std.specs.Ordering.{is_eq, is_gt, is_lt, ordering_reverse}
 use Rattle.std.specs.declared.cmp.Ordering.{Ordering}
 use Rattle.std.specs.declared.cmp.Ordering.TheVariants.{Less, Equal, Greater}
-use Rattle.al_base.specs.declared.severity.Severity.{Severity}
-use Rattle.al_base.specs.declared.severity.Status.{Status}
 use Rattle.al_base.specs.declared.severity.Status.TheVariants.{Cleared, Active}
 use Rattle.al_base.specs.declared.text.Text.{Text}
 use Rattle.al_base.specs.declared.operator.OperatorState.TheVariants.{Shelved}
 use Rattle.al_ids.proofs.Keyed.{equal_key}
 use Rattle.al_ids.specs.Keys.{key_cmp}
 use Rattle.al_ids.specs.declared.key.AlarmKey.{AlarmKey}
-use Rattle.al_select.specs.Filters.{purge_takes, same_text}
-use Rattle.al_model.specs.Alarms.{alarm_of, facts_of, is_of, move_entry, new_alarm, own_entry, says_more, with_newcomer}
+use Rattle.al_select.specs.Filters.{same_text}
+use Rattle.al_model.specs.Alarms.{alarm_of, is_of, move_entry, new_alarm, own_entry, says_more, with_newcomer}
 use Rattle.al_model.specs.Events.{after_event, fate, newcomer, set_by, touches}
 use Rattle.al_model.specs.State.{AlarmState, State, alarms_on, is_on, shelf_name}
 use Rattle.al_model.specs.Step.{moved, step, touches_side}
@@ -26,11 +24,11 @@ use Rattle.al_model.specs.declared.event.Event.TheVariants as events
 use Rattle.al_model.specs.declared.event.Side.{Side}
 use Rattle.al_model.specs.declared.event.Side.TheVariants as sides
 use Rattle.al_model.proofs.Living.{all_live, any_append, found, map-filter_map, none_of_both}
-use Rattle.al_model.proofs.Moves.{fate_key, moved_key, of_key, same_is, unmoved}
-use Rattle.al_model.proofs.Order.{filtered, keys_total, lower_is, upper_is}
-use Rattle.al_model.proofs.Sameness.{alarms_after, newcomer_key}
+use Rattle.al_model.proofs.Moves.{fate_key, moved_key, same_is, unmoved}
+use Rattle.al_model.proofs.Order.{keys_total}
+use Rattle.al_model.proofs.Sameness.{alarms_after}
 use Rattle.al_model.proofs.Sides.{AreSided, same_side, untouched_side}
-use Rattle.al_model.proofs.Tools.{either, is_none_at, none_true}
+use Rattle.al_model.proofs.Tools.{either, none_true}
 use Rattle.al_model.proofs.Touched.{life, touched, untouched}
 
 -- ---- what becomes of each alarm, by its sides

@@ -1,16 +1,16 @@
 -- An event changes an alarm exactly where it touches it.
-use Rattle.std.proofs.Common.{◌≡◌, ◌≢◌, ℕ, ◌+◌, ◌<◌, ◌≤◌, Bool, true, false, cond, ◌&&◌, Option, None, Some, List, [], ◌∷◌, length, take, refl, sym, ap, ◌∙◌, subst, arith, length-take, take_all}
+use Rattle.std.proofs.Common.{◌≡◌, ◌≢◌, ℕ, ◌<◌, ◌≤◌, Bool, true, false, cond, ◌&&◌, Option, None, Some, length, refl, sym, ap, ◌∙◌, arith, length-take, take_all}
 use Rattle.std.specs.Bool.{nat_lt}
 use Rattle.std.specs.Option.{IfSome, is_some, option_map}
 use Rattle.std.proofs.lemmas.Bool.Decides.{Decides-ltb}
 use Rattle.std.proofs.lemmas.Option.{same_Some}
-use Rattle.al_base.specs.declared.operator.OperatorState.TheVariants.{Shelved, UnShelved}
+use Rattle.al_base.specs.declared.operator.OperatorState.TheVariants.{Shelved}
 use Rattle.al_base.specs.declared.severity.Status.{Status}
 use Rattle.al_base.specs.declared.severity.Status.TheVariants.{Cleared, Active}
 use Rattle.al_base.specs.declared.text.Text.{Text}
-use Rattle.al_select.specs.Filters.{compress_takes, purge_takes, same_text}
-use Rattle.al_model.specs.Alarms.{bounded, facts_of, is_of, move_entry, own_entry, reported, says_more, with_operator}
-use Rattle.al_model.specs.Events.{after_event, fate, moves, set_by, touches}
+use Rattle.al_select.specs.Filters.{compress_takes, same_text}
+use Rattle.al_model.specs.Alarms.{bounded, move_entry, own_entry, reported, with_operator}
+use Rattle.al_model.specs.Events.{after_event, fate, set_by, touches}
 use Rattle.al_model.specs.State.{AlarmState, State, is_on, shelf_name}
 use Rattle.al_model.specs.Step.{moved}
 use Rattle.al_model.specs.declared.entry.OperatorEntry.{OperatorEntry}

@@ -1,20 +1,18 @@
 -- Every legal history leaves a valid state.
-use Rattle.std.proofs.Common.{◌≡◌, ◌≢◌, ℕ, ◌+◌, ◌<◌, ◌≤◌, Bool, true, false, Option, None, Some, List, [], ◌∷◌, length, refl, sym, ap, ◌∙◌, subst, arith}
+use Rattle.std.proofs.Common.{◌≡◌, ℕ, ◌+◌, ◌<◌, ◌≤◌, Bool, true, false, Option, None, Some, List, [], ◌∷◌, refl, sym, ap, ◌∙◌, subst, arith}
 use Rattle.std.specs.List.{AllByRecursion}
 use Rattle.std.specs.Option.{IfSome}
-use Rattle.std.proofs.lemmas.Option.{slice_get_past}
-use Rattle.al_base.specs.Limits.{last_stamp, most_alarms}
+use Rattle.al_base.specs.Limits.{last_stamp}
 use Rattle.al_notify.proofs.Keeping.{logged_sound}
 use Rattle.al_notify.specs.Logs.{IsLog, LogView}
 use Rattle.al_notify.specs.declared.note.NoteBody.{NoteBody}
-use Rattle.al_shelf.specs.Places.{AreShelves}
 use Rattle.al_model.specs.Decision.{entry_of, entry_time, event_of, missing, undeclared, decision_of}
 use Rattle.al_model.specs.Events.{set_by}
-use Rattle.al_model.specs.History.{Fits, IsLegal, replay, replay_from}
+use Rattle.al_model.specs.History.{Fits, IsLegal, replay}
 use Rattle.al_model.specs.Laws.{IsSame, MovesSideTime, side_time}
-use Rattle.al_model.specs.State.{AlarmState, State, alarms_on, start}
+use Rattle.al_model.specs.State.{AlarmState, State, start}
 use Rattle.al_model.specs.Step.{IsSameButTime, log_after, note_of, step, time_of_change, touches_side}
-use Rattle.al_model.specs.Validity.{IsBounded, IsInOrder, IsMarked, IsNewest, IsTimed, IsValid, IsValidAlarm, KeepsOne}
+use Rattle.al_model.specs.Validity.{IsBounded, IsMarked, IsNewest, IsTimed, IsValid, IsValidAlarm}
 use Rattle.al_model.specs.declared.entry.Entry.{Entry}
 use Rattle.al_model.specs.declared.event.Event.{Event}
 use Rattle.al_model.specs.declared.event.Event.TheVariants as events

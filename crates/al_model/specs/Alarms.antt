@@ -15,7 +15,6 @@ use Rattle.al_ids.specs.declared.key.AlarmKey.{AlarmKey}
 use Rattle.al_select.specs.Filters.{Facts, same_text}
 use Rattle.al_model.specs.State.{AlarmState}
 use Rattle.al_model.specs.declared.entry.OperatorEntry.{OperatorEntry}
-use Rattle.al_model.specs.declared.entry.StatusEntry.{StatusEntry}
 
 -- ---- an alarm among others
 

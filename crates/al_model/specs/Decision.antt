@@ -1,16 +1,14 @@
 -- What is to become of a request in a state.
-use Rattle.std.specs.Prelude.{◌≡◌, ℕ, ◌+◌, ◌==◌, max, nat_le, nat_lt, Bool, true, false, not, ◌&&◌, ◌||◌, ⊤, Option, None, Some, List, is_none, is_some, length}
+use Rattle.std.specs.Prelude.{ℕ, ◌+◌, ◌==◌, max, nat_le, nat_lt, Bool, true, false, not, ◌&&◌, ◌||◌, Option, None, Some, is_none, is_some, length}
 use Rattle.std.specs.List.{count_by, list_any}
 use Rattle.std.specs.Option.{option_eq, option_or, unwrap_or}
 use Rattle.al_base.specs.Limits.{last_stamp, most_alarms, most_shelves}
 use Rattle.al_base.specs.declared.severity.Status.TheVariants.{Cleared, Active}
-use Rattle.al_base.specs.declared.severity.Severity.{Severity}
 use Rattle.al_base.specs.declared.severity.Status.{Status}
-use Rattle.al_base.specs.declared.text.Text.{Text}
-use Rattle.al_ids.specs.declared.key.AlarmKey.{AlarmKey}
 use Rattle.al_shelf.specs.Places.{place_for, place_of}
 use Rattle.al_types.specs.Inventories.{allows, row_of}
 use Rattle.al_types.specs.declared.row.Row.{Row}
+use Rattle.al_notify.specs.declared.rule.NotifyRule.{NotifyRule}
 use Rattle.al_model.specs.Alarms.{alarm_of}
 use Rattle.al_model.specs.Events.{newcomer, set_by, touches}
 use Rattle.al_model.specs.Sames.{same_installed, same_rule, same_shelves}
@@ -31,19 +29,29 @@ use Rattle.al_model.specs.declared.request.Request.TheVariants as requests
 abbrev pub entry_time : State → ℕ → ℕ
 entry_time s now = max now (s.time + 1)
 
+-- the event of a request that changes one part of this rule, and whose shelf stands at this place
+abbrev pub event_by : NotifyRule → ℕ → Request → Event
+event_by rule place (requests.Report key status text) = events.Report key status text
+event_by rule place (requests.Operate key state operator text) = events.Operate key state operator text
+event_by rule place (requests.SetMax max) = events.SetMax max
+event_by rule place (requests.SetMode mode) = events.SetNotify (record { mode = mode; level = rule.level })
+event_by rule place (requests.SetLevel level) = events.SetNotify (record { mode = rule.mode; level = level })
+event_by rule place (requests.CreateShelf shelf spot) = events.PutShelf shelf place
+event_by rule place (requests.PutShelf shelf spot) = events.PutShelf shelf place
+event_by rule place (requests.DropShelf name) = events.DropShelf name
+event_by rule place (requests.Purge side filter) = events.Purge side filter
+event_by rule place (requests.Compress side filter) = events.Compress side filter
+event_by rule place (requests.Install inventory) = events.Install inventory
+
+-- where the shelf of a request is to stand: the first place where the point of its spot isn't there
+abbrev pub shelf_place : State → Request → ℕ
+shelf_place s (requests.CreateShelf shelf spot) = unwrap_or (place_for spot shelf.name s.shelves) 0
+shelf_place s (requests.PutShelf shelf spot) = unwrap_or (place_for spot shelf.name s.shelves) 0
+shelf_place s other = 0
+
 -- the event by which a request is carried out
 abbrev pub event_of : State → Request → Event
-event_of s (requests.Report key status text) = events.Report key status text
-event_of s (requests.Operate key state operator text) = events.Operate key state operator text
-event_of s (requests.SetMax max) = events.SetMax max
-event_of s (requests.SetMode mode) = events.SetNotify (record { mode = mode; level = s.rule.level })
-event_of s (requests.SetLevel level) = events.SetNotify (record { mode = s.rule.mode; level = level })
-event_of s (requests.CreateShelf shelf spot) = events.PutShelf shelf (unwrap_or (place_for spot shelf.name s.shelves) 0)
-event_of s (requests.PutShelf shelf spot) = events.PutShelf shelf (unwrap_or (place_for spot shelf.name s.shelves) 0)
-event_of s (requests.DropShelf name) = events.DropShelf name
-event_of s (requests.Purge side filter) = events.Purge side filter
-event_of s (requests.Compress side filter) = events.Compress side filter
-event_of s (requests.Install inventory) = events.Install inventory
+event_of s request = event_by s.rule (shelf_place s request) request
 
 -- the entry that an event makes at a reading of the clock
 abbrev pub entry_of : State → ℕ → Event → ℕ → Entry

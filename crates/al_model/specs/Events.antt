@@ -1,5 +1,5 @@
 -- What an event does: to all but the alarms, to each alarm that stands, and the alarm that it makes.
-use Rattle.std.specs.Prelude.{ℕ, nat_lt, Bool, false, ◌&&◌, Option, None, Some, List, is_some, length, if◌then◌else◌}
+use Rattle.std.specs.Prelude.{ℕ, nat_lt, Bool, false, ◌&&◌, Option, None, Some, is_some, length, if◌then◌else◌}
 use Rattle.std.specs.List.{filter_map, insert}
 use Rattle.al_base.specs.declared.severity.Status.TheVariants.{Cleared, Active}
 use Rattle.al_select.specs.Filters.{purge_takes, compress_takes}

@@ -1,5 +1,5 @@
 -- Histories: what stands after them, and which of them are legal.
-use Rattle.std.specs.Prelude.{◌≡◌, ◌<◌, ℕ, zero, suc, ⊤, Option, None, Some, List, [], ◌∷◌, slice_get, if◌then◌else◌}
+use Rattle.std.specs.Prelude.{◌≡◌, ◌<◌, ℕ, zero, suc, ⊤, Option, Some, List, [], ◌∷◌, slice_get, if◌then◌else◌}
 use Rattle.std.specs.Option.{option_map}
 use Rattle.al_notify.specs.declared.rule.NotifyRule.{NotifyRule}
 use Rattle.al_shelf.specs.Places.{without}

@@ -1,8 +1,7 @@
 -- What holds of every state and history.
-use Rattle.std.specs.Prelude.{◌≡◌, ◌≢◌, ◌↔◌, ◌⊎◌, ℕ, ◌+◌, ◌<◌, ◌≤◌, ◌^◌, nat_lt, Bool, true, false, ⊤, Option, None, Some, IfSome, List, [], ◌∷◌, ◌++◌, length, take, slice_get}
+use Rattle.std.specs.Prelude.{◌≡◌, ◌≢◌, ◌↔◌, ◌⊎◌, ℕ, ◌+◌, ◌<◌, ◌≤◌, ◌^◌, nat_lt, Bool, true, ⊤, Option, None, Some, List, [], ◌∷◌, ◌++◌, length, take, slice_get}
 use Rattle.std.specs.List.{AllByRecursion, count_by, zip}
 use Rattle.al_base.specs.Limits.{last_stamp, most_alarms}
-use Rattle.al_base.specs.declared.text.Text.{Text}
 use Rattle.al_select.specs.declared.compress.CompressFilter.{CompressFilter}
 use Rattle.al_select.specs.declared.purge.PurgeFilter.{PurgeFilter}
 use Rattle.al_shelf.specs.Places.{AreShelves, without}

@@ -1,5 +1,5 @@
 -- How long the texts and lists of requests, events and entries may be, how great their numbers, and of what form.
-use Rattle.std.specs.Prelude.{◌≢◌, ℕ, ◌≤◌, ◌<◌, ◌^◌, ⊤, Option, None, Some, IfSome, List, All, length}
+use Rattle.std.specs.Prelude.{◌≢◌, ℕ, ◌≤◌, ◌<◌, ◌^◌, ⊤, Option, IfSome, List, All, length}
 use Rattle.std.specs.List.{AllPairs}
 use Rattle.al_base.specs.Identifiers.{IsTypeName}
 use Rattle.al_base.specs.Limits.{IsAge, IsAlarmText, IsDescription, IsFilterName, IsOperatorName, IsOperatorText, IsPatternText, IsQualifier, IsResourceText, IsSeveritySet, IsShelfName, IsStatusChanges, last_stamp, most_row_resources, most_shelf_resources, most_shelf_types}

@@ -1,11 +1,10 @@
 -- The step of the state at an entry: the event, then moves between list and shelf, then notes, then the times of both sides.
-use Rattle.std.specs.Prelude.{◌≡◌, ℕ, ◌+◌, Bool, true, false, not, ◌&&◌, ◌||◌, Option, None, Some, List, is_some, map, if◌then◌else◌}
+use Rattle.std.specs.Prelude.{◌≡◌, ℕ, ◌+◌, Bool, true, false, ◌&&◌, ◌||◌, Option, None, Some, List, map, if◌then◌else◌}
 use Rattle.std.specs.List.{list_any}
 use Rattle.std.specs.Option.{option_map, option_to_list}
 use Rattle.al_base.specs.declared.severity.Status.{Status}
 use Rattle.al_base.specs.declared.severity.Status.TheVariants.{Cleared, Active}
 use Rattle.al_base.specs.declared.text.Text.{Text}
-use Rattle.al_ids.specs.declared.key.AlarmKey.{AlarmKey}
 use Rattle.al_notify.specs.Logs.{LogView, logged}
 use Rattle.al_notify.specs.Rules.{sends}
 use Rattle.al_notify.specs.declared.note.NoteBody.{NoteBody}

@@ -1,5 +1,5 @@
 -- The summary of the alarm list (RFC 8632, container `summary`).
-use Rattle.std.specs.Prelude.{ℕ, ◌==◌, Bool, false, not, ◌&&◌, Option, None, Some, List, [], ◌∷◌, filter, is_some, length, map}
+use Rattle.std.specs.Prelude.{ℕ, ◌==◌, Bool, false, not, ◌&&◌, List, [], ◌∷◌, filter, length, map}
 use Rattle.std.specs.List.{count_by, list_any}
 use Rattle.al_base.specs.Names.{rank_of}
 use Rattle.al_base.specs.declared.operator.OperatorState.TheVariants.{Closed}

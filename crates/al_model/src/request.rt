@@ -1,7 +1,10 @@
-use crate::event::Side;
+ghost use Rattle.std.specs.Prelude.{◌≡◌};
+ghost use Rattle.al_model.specs.Decision.{event_by};
+
+use crate::event::{Event, Side};
 use al_base::{Copied, OperatorState, Severity, Status, Text};
 use al_ids::AlarmKey;
-use al_notify::Mode;
+use al_notify::{Mode, NotifyRule};
 use al_select::{CompressFilter, PurgeFilter};
 use al_shelf::{Shelf, Spot};
 use al_types::Inventory;
@@ -56,6 +59,39 @@ pub enum Request {
     },
     /// To declare what alarms the device may raise.
     Install(Inventory),
+}
+
+impl Request {
+    /// The event by which it is carried out, with what the request has. It changes one part of the rule, and leaves the other; a shelf is
+    /// put at the place.
+    pub fn into_event(self, rule: &NotifyRule, place: u8) -> Event
+        ensures { result ≡ event_by rule.now place self }
+    {
+        let NotifyRule { mode, level } = *rule;
+        match self {
+            Request::Report { key, status, text } => Event::Report { key, status, text },
+            Request::Operate {
+                key,
+                state,
+                operator,
+                text,
+            } => Event::Operate {
+                key,
+                state,
+                operator,
+                text,
+            },
+            Request::SetMax(max) => Event::SetMax(max),
+            Request::SetMode(mode) => Event::SetNotify(NotifyRule { mode, level }),
+            Request::SetLevel(level) => Event::SetNotify(NotifyRule { mode, level }),
+            Request::CreateShelf { shelf, spot: _spot } => Event::PutShelf { shelf, at: place },
+            Request::PutShelf { shelf, spot: _spot } => Event::PutShelf { shelf, at: place },
+            Request::DropShelf { name } => Event::DropShelf { name },
+            Request::Purge { side, filter } => Event::Purge { side, filter },
+            Request::Compress { side, filter } => Event::Compress { side, filter },
+            Request::Install(inventory) => Event::Install(inventory),
+        }
+    }
 }
 
 // By hand, so that an early return has one call for the whole value.

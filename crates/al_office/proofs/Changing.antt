@@ -5,7 +5,6 @@ use Rattle.al_disk.proofs.Going.{stays}
 use Rattle.al_frame.specs.Frames.{frame_of}
 use Rattle.al_journal.specs.Views.{JournalView}
 use Rattle.al_journal.proofs.Gates.{staged_shows}
-use Rattle.al_lists.specs.Verdicts.{HasEvent}
 use Rattle.al_model.specs.Decision.{decision_of, entry_of}
 use Rattle.al_model.specs.History.{replay}
 use Rattle.al_model.specs.State.{State}
@@ -48,12 +47,6 @@ nothing_left told new office origin now (Same reply) holds same = stays (Leaves 
 nothing_left told new office origin now (Change event reply) holds same =
     stays (Leaves office origin now (Change event reply)) told new same
     (λ s is. still_writes told office.journal office.entries (entry_of (replay office.entries) origin event now) holds s is)
-
--- want of memory for a change
-pub no_memory : {D : Type 0} (old new : JournaledView D) (origin now : ℕ) (d : Decision) → HasEvent d → new ≡ old → IsDecided old origin now d (Err refusals.Memory) new
-no_memory old new origin now (Refuse refusal) event same = absurd event
-no_memory old new origin now (Same reply) event same = absurd event
-no_memory old new origin now (Change e reply) event same = same
 
 -- what is answered at once
 pub told_at_once : {D : Type 0} (old new : JournaledView D) (origin now : ℕ) (d : Decision) (answer : Result Reply Refusal) → Err answer ≡ carried_out (replay old.entries) origin now d → new ≡ old → IsDecided old origin now d answer new

@@ -90,7 +90,7 @@ impl<D: Disk> Office<D> {
         ensures later { D.faults self.old.journal.disk ≤ D.faults self.new.journal.disk }
         ensures cause { result ≡ Err Refusal.Disk → Rose (D.faults self.old.journal.disk) (D.faults self.new.journal.disk) }
     {
-        match self.ledger.decide(origin, &request, now)? {
+        match self.ledger.decide(origin, request, now) {
             Ok((entry, reply)) => {
                 self.add(entry)?;
                 Ok(reply)

@@ -1,8 +1,7 @@
 //! A legal history and the tables that it leaves, in memory.
 
 ghost use Rattle.std.specs.Option.{option_copied};
-ghost use Rattle.std.specs.Prelude.{◌≡◌, ◌<◌, ◌↔◌, [], ◌∷◌, ◌++◌, IfOk, IsTrue, OnErr, length, slice_get, vec_len, vec_capacity};
-ghost use Rattle.al_lists.specs.Verdicts.{HasEvent};
+ghost use Rattle.std.specs.Prelude.{◌≡◌, ◌<◌, ◌↔◌, [], ◌∷◌, ◌++◌, IfOk, IsTrue, length, slice_get, vec_len, vec_capacity};
 ghost use Rattle.al_model.specs.Decision.{decision_of};
 ghost use Rattle.al_model.specs.History.{Fits, IsLegal, replay};
 ghost use Rattle.al_model.specs.Limits.{IsEntryWithin, IsRequestWithin};
@@ -44,19 +43,18 @@ impl Ledger {
         })
     }
 
-    /// Decides on the request: the entry that carries it out and its reply, or what is answered at once. Memory is taken for a change alone.
+    /// Decides on the request: the entry that carries it out and its reply, or what is answered at once. It takes no memory.
     pub fn decide(
         &self,
         origin: u16,
-        request: &Request,
+        request: Request,
         now: Stamp,
-    ) -> Result<Result<(Entry, Reply), Result<Reply, Refusal>>, AllocError>
-        requires { IsRequestWithin request.now }
-        ensures ok { IfOk result (λ todo. todo ≡ carried_out (replay self.now.entries) origin now (decision_of (replay self.now.entries) request.now now)) }
-        ensures fits { IfOk result (λ todo. IfOk todo (λ change. Fits (replay self.now.entries) change.0)) }
-        ensures err { OnErr result (HasEvent (decision_of (replay self.now.entries) request.now now)) }
+    ) -> Result<(Entry, Reply), Result<Reply, Refusal>>
+        requires { IsRequestWithin request }
+        ensures decided { result ≡ carried_out (replay self.now.entries) origin now (decision_of (replay self.now.entries) request now) }
+        ensures fits { IfOk result (λ change. Fits (replay self.now.entries) change.0) }
     {
-        match to_carry_out(self.tables.decide(request, now)?) {
+        match to_carry_out(self.tables.decide(request, now)) {
             Ok((event, reply)) => {
                 let time = time_after(self.tables.time(), now);
                 let entry = Entry {
@@ -64,9 +62,9 @@ impl Ledger {
                     origin,
                     event,
                 };
-                Ok(Ok((entry, reply)))
+                Ok((entry, reply))
             }
-            Err(answer) => Ok(Err(answer)),
+            Err(answer) => Err(answer),
         }
     }
 
