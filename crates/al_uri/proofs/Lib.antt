@@ -3,3 +3,4 @@ pub mod Gathered
 pub mod KeyLemmas
 pub mod Texts
 pub mod Within
+mod Reports

@@ -2,7 +2,7 @@ ghost use Rattle.al_uri.specs.Faults.{Answers};
 ghost use Rattle.al_uri.specs.Limits.{IsTargetWithin};
 ghost use Rattle.al_uri.specs.Targets.{target_of};
 ghost use Rattle.std.specs.Option.{option_copied};
-ghost use Rattle.std.specs.Prelude.{IfOk};
+ghost use Rattle.std.specs.Prelude.{◌≡◌, IfOk, Ok, true};
 
 use crate::fault::UriFault;
 use crate::place::Place;
@@ -79,9 +79,22 @@ impl Target {
         ensures exact { Answers (target_of path.now (option_copied query.entry)) result }
         ensures within { IfOk result IsTargetWithin }
     {
+        if is_plain_report(path, query) {
+            return Ok(Target::Report);
+        }
         let place = path::walk(alloc, Place::Start, path)?;
         let target = place.resource()?;
         let asked = query::read(alloc, target.known(), query)?;
         target.with_parameters(asked)
+    }
+}
+
+/// Whether it is the path of reports as instrumentation mostly spells it. It is known without a walk, since most requests of a server have it.
+fn is_plain_report(path: &[u8], query: Option<&[u8]>) -> bool
+    ensures { result ≡ true → target_of path.now (option_copied query.entry) ≡ Ok Target.Report }
+{
+    match query {
+        None => path == b"/restconf/operations/alarmd:report".as_slice(),
+        Some(_) => false,
     }
 }
