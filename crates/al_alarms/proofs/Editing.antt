@@ -13,10 +13,10 @@ use Rattle.al_model.specs.declared.event.Side.{Side}
 use Rattle.al_model.proofs.Tools.{either}
 use Rattle.al_select.specs.declared.compress.CompressFilter.{CompressFilter}
 use Rattle.al_alarms.specs.Edits.{ChangesAt, HasRoomFor, HaveRoom, IsListedAt, ReservesOnly, after_moves, at_place}
-use Rattle.al_alarms.specs.Places.{AreSides, places_of}
+use Rattle.al_alarms.specs.Places.{AreParted, AreSides, places_of}
 use Rattle.al_alarms.specs.Tables.{TablesView}
 use Rattle.al_alarms.specs.Views.{AlarmView, compressed, compressed_view, is_marked, is_unmarked, marked, states, with_max}
-use Rattle.al_alarms.proofs.Sides.{places-at, places-map}
+use Rattle.al_alarms.proofs.Sides.{length-map, places-at, places-insert, places-map, places_few, places_within}
 
 -- how many status entries each alarm keeps
 abbrev pub KeepMost : Option ℕ → List AlarmView → Type 0
@@ -141,12 +141,18 @@ pub done_none : {X : Type 0} (f : X → X) (xs : List X) → done_to f 0 xs ≡ 
 done_none f [] = refl
 done_none f (x ∷ xs) = refl
 
-done_past : {X : Type 0} (f : X → X) (i : ℕ) (xs : List X) → length xs ≤ i → done_to f i xs ≡ map f xs
+pub done_past : {X : Type 0} (f : X → X) (i : ℕ) (xs : List X) → length xs ≤ i → done_to f i xs ≡ map f xs
 done_past f i [] le = refl
 done_past f zero (x ∷ xs) le = absurd (omega arith)
 done_past f (suc i) (x ∷ xs) le = ap (λ ys. f x ∷ ys) (done_past f i xs (omega arith))
 
-length-done : {X : Type 0} (f : X → X) (i : ℕ) (xs : List X) → length (done_to f i xs) ≡ length xs
+-- the next one stands as it did
+pub done_next_same : {X : Type 0} (f : X → X) (i : ℕ) (xs : List X) (d : X) → i < length (done_to f i xs) → slice_index_or (done_to f i xs) i d ≡ slice_index_or xs i d
+done_next_same f i [] d lt = refl
+done_next_same f zero (x ∷ xs) d lt = refl
+done_next_same f (suc i) (x ∷ xs) d lt = done_next_same f i xs d (omega arith)
+
+pub length-done : {X : Type 0} (f : X → X) (i : ℕ) (xs : List X) → length (done_to f i xs) ≡ length xs
 length-done f i [] = refl
 length-done f zero (x ∷ xs) = refl
 length-done f (suc i) (x ∷ xs) = ap suc (length-done f i xs)
@@ -237,6 +243,22 @@ pub inserted_states : (views : List AlarmView) (i : ℕ) (v : AlarmView) → sta
 inserted_states views zero v = refl
 inserted_states [] (suc i) v = refl
 inserted_states (x ∷ xs) (suc i) v = ap (λ ys. x.state ∷ ys) (inserted_states xs i v)
+
+-- The places of a side are as many as the alarms at most, and stand among them.
+pub side_fits : (p : AlarmState → Bool) (views : List AlarmView) (places : List ℕ) → places ≡ places_of p (states views) → (length places ≤ length views) × AllByRecursion (λ i. i < length views) places
+side_fits p views places is =
+    let count : length (states views) ≡ length views = length-map (λ (w : AlarmView). w.state) views in (
+      subst (λ xs. length xs ≤ length views) (sym is) (omega (arith, places_few p (states views), count)),
+      subst (AllByRecursion (λ i. i < length views)) (sym is) (subst (λ n. AllByRecursion (λ i. i < n) (places_of p (states views))) count (places_within p (states views))),
+    )
+
+-- the places of a side, with that of the new alarm put in
+pub put_side : (p : AlarmState → Bool) (views : List AlarmView) (place : ℕ) (v : AlarmView) (before after : List ℕ) (is_here : Bool) → place ≤ length views → before ≡ places_of p (states views) → is_here ≡ p v.state → ((first last : List ℕ) → AreParted place before first last → after ≡ first ++ (cond is_here (place ∷ []) [] ++ map suc last)) → after ≡ places_of p (states (insert views place v))
+put_side p views place v before after is_here le side here put =
+    let at = places-insert p (states views) place v.state (omega (arith, le, length-map (λ (w : AlarmView). w.state) views)) in
+    put at.before at.after (subst (λ places. AreParted place places at.before at.after) (sym side) at.parted)
+    ∙ ap (λ b. at.before ++ (cond b (place ∷ []) [] ++ map suc at.after)) here
+    ∙ sym (ap (places_of p) (inserted_states views place v) ∙ at.inserted)
 
 pub inserted_maxes : (max : Option ℕ) (views : List AlarmView) (i : ℕ) (v : AlarmView) → v.max ≡ max → KeepMost max views → KeepMost max (insert views i v)
 inserted_maxes max views zero v is h = (is, h)

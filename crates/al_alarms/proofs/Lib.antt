@@ -1,3 +1,4 @@
 pub mod Editing
+pub mod Parting
 pub mod Positions
 pub mod Sides

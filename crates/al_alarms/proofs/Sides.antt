@@ -1,6 +1,6 @@
 -- The places of a side.
-use Rattle.std.proofs.Common.{◌≡◌, ℕ, zero, suc, ◌+◌, ◌<◌, Bool, true, false, cond, not, List, [], ◌∷◌, ◌++◌, length, map, take, Option, None, Some, refl, ap, sym, ◌∙◌, subst, arith, length-take}
-use Rattle.std.specs.List.{AllByRecursion, filter, find, slice_get, slice_index_or, slice_set}
+use Rattle.std.proofs.Common.{◌≡◌, ℕ, zero, suc, ◌+◌, ◌<◌, ◌≤◌, Bool, true, false, cond, not, List, [], ◌∷◌, ◌++◌, length, map, take, Option, None, Some, refl, ap, sym, ◌∙◌, subst, arith, length-take}
+use Rattle.std.specs.List.{AllByRecursion, filter, find, insert, slice_get, slice_index_or, slice_set}
 use Rattle.std.specs.Option.{is_some, option_and_then, option_map}
 use Rattle.std.proofs.lemmas.List.{map-append, take_more}
 use Rattle.std.proofs.lemmas.Option.{slice_get-map}
@@ -13,7 +13,7 @@ use Rattle.al_model.specs.State.{AlarmState, State, is_listed, is_shelved, shelf
 use Rattle.al_model.specs.Validity.{IsMarked, shelved_by, shelving}
 use Rattle.al_model.specs.declared.entry.OperatorEntry.{OperatorEntry}
 use Rattle.al_model.proofs.Moves.{of_key}
-use Rattle.al_alarms.specs.Places.{AreSides, places_of}
+use Rattle.al_alarms.specs.Places.{AreParted, AreSides, places_of}
 use Rattle.al_alarms.specs.Views.{AlarmView, is_at, is_marked, is_unmarked, mark_of, marked, states}
 use Rattle.al_model.specs.State.{alarms_on, is_on, listed, shelved}
 use Rattle.al_model.specs.Validity.{IsValid}
@@ -46,7 +46,7 @@ at_side p (v ∷ views) i = by (at_side p views) (p v.state) i
     by more true (suc i) = shifted more i
     by more false i = shifted more i
 
-length-map : {X Y : Type 0} (f : X → Y) (xs : List X) → length (map f xs) ≡ length xs
+pub length-map : {X Y : Type 0} (f : X → Y) (xs : List X) → length (map f xs) ≡ length xs
 length-map f [] = refl
 length-map f (x ∷ xs) = ap suc (length-map f xs)
 
@@ -218,3 +218,95 @@ sides_next alarms place v list shelf list' shelf' lt read sides put_list put_she
     length-states : (views : List AlarmView) → length (states views) ≡ length views
     length-states [] = refl
     length-states (w ∷ views) = ap suc (length-states views)
+
+-- ---- a new alarm among them
+
+up_below : (k : ℕ) (places : List ℕ) → AllByRecursion (λ i. i < k) places → AllByRecursion (λ i. i < suc k) (map suc places)
+up_below k [] h = tt
+up_below k (i ∷ rest) h = (omega (arith, h.0), up_below k rest h.1)
+
+up_above : (k : ℕ) (places : List ℕ) → AllByRecursion (λ i. k ≤ i) places → AllByRecursion (λ i. suc k ≤ i) (map suc places)
+up_above k [] h = tt
+up_above k (i ∷ rest) h = (omega (arith, h.0), up_above k rest h.1)
+
+all_above : (places : List ℕ) → AllByRecursion (λ i. 0 ≤ i) places
+all_above [] = tt
+all_above (i ∷ rest) = (omega arith, all_above rest)
+
+pub places_within : {X : Type 0} (p : X → Bool) (xs : List X) → AllByRecursion (λ i. i < length xs) (places_of p xs)
+places_within p [] = tt
+places_within {X} p (x ∷ xs) = by (p x) (up_below (length xs) (places_of p xs) (places_within p xs))
+  where
+    by : (b : Bool) → AllByRecursion (λ i. i < suc (length xs)) (map suc (places_of p xs)) → AllByRecursion (λ i. i < suc (length xs)) (cond b (0 ∷ map suc (places_of p xs)) (map suc (places_of p xs)))
+    by true h = (omega arith, h)
+    by false h = h
+
+pub places_few : {X : Type 0} (p : X → Bool) (xs : List X) → length (places_of p xs) ≤ length xs
+places_few p [] = omega arith
+places_few {X} p (x ∷ xs) = by (p x) (omega (arith, length-map suc (places_of p xs), places_few p xs))
+  where
+    by : (b : Bool) → length (map suc (places_of p xs)) ≤ length xs → length (cond b (0 ∷ map suc (places_of p xs)) (map suc (places_of p xs))) ≤ suc (length xs)
+    by true h = omega (arith, h)
+    by false h = omega (arith, h)
+
+-- the places of a side, parted where a new one comes
+pub record PartedAt {X : Type 0} (p : X → Bool) (xs : List X) (k : ℕ) (x : X) : Type 0 where
+  pub before : List ℕ
+  pub after : List ℕ
+  pub parted : AreParted k (places_of p xs) before after
+  pub inserted : places_of p (insert xs k x) ≡ before ++ (cond (p x) (k ∷ []) [] ++ map suc after)
+
+-- one more alarm before all
+parted_more : {X : Type 0} (p : X → Bool) (y : X) (ys : List X) (k : ℕ) (x : X) → PartedAt p ys k x → PartedAt p (y ∷ ys) (suc k) x
+parted_more {X} p y ys k x more = further (p y) refl
+  where
+    one : (b : Bool) → map suc (cond b (k ∷ []) []) ≡ cond b (suc k ∷ []) []
+    one true = refl
+    one false = refl
+
+    all_up : map suc (places_of p ys) ≡ map suc more.before ++ map suc more.after
+    all_up = ap (map suc) more.parted.all ∙ map-append suc more.before more.after
+
+    new_up : map suc (places_of p (insert ys k x)) ≡ map suc more.before ++ (cond (p x) (suc k ∷ []) [] ++ map suc (map suc more.after))
+    new_up =
+        ap (map suc) more.inserted ∙ map-append suc more.before (cond (p x) (k ∷ []) [] ++ map suc more.after)
+        ∙ ap (λ zs. map suc more.before ++ zs) (map-append suc (cond (p x) (k ∷ []) []) (map suc more.after) ∙ ap (λ zs. zs ++ map suc (map suc more.after)) (one (p x)))
+
+    further : (b : Bool) → p y ≡ b → PartedAt p (y ∷ ys) (suc k) x
+    further true is =
+        record {
+          before = 0 ∷ map suc more.before;
+          after = map suc more.after;
+          parted = record {
+            all = ap (λ b. cond b (0 ∷ map suc (places_of p ys)) (map suc (places_of p ys))) is ∙ ap (λ zs. 0 ∷ zs) all_up;
+            below = (omega arith, up_below k more.before more.parted.below);
+            above = up_above k more.after more.parted.above;
+          };
+          inserted = ap (λ b. cond b (0 ∷ map suc (places_of p (insert ys k x))) (map suc (places_of p (insert ys k x)))) is ∙ ap (λ zs. 0 ∷ zs) new_up;
+        }
+    further false is =
+        record {
+          before = map suc more.before;
+          after = map suc more.after;
+          parted = record {
+            all = ap (λ b. cond b (0 ∷ map suc (places_of p ys)) (map suc (places_of p ys))) is ∙ all_up;
+            below = up_below k more.before more.parted.below;
+            above = up_above k more.after more.parted.above;
+          };
+          inserted = ap (λ b. cond b (0 ∷ map suc (places_of p (insert ys k x))) (map suc (places_of p (insert ys k x)))) is ∙ new_up;
+        }
+
+pub places-insert : {X : Type 0} (p : X → Bool) (xs : List X) (k : ℕ) (x : X) → k ≤ length xs → PartedAt p xs k x
+places-insert {X} p xs zero x le =
+    record {
+      before = [];
+      after = places_of p xs;
+      parted = record { all = refl; below = tt; above = all_above (places_of p xs) };
+      inserted = by (p x);
+    }
+  where
+    by : (b : Bool) → cond b (0 ∷ map suc (places_of p xs)) (map suc (places_of p xs)) ≡ cond b (0 ∷ []) [] ++ map suc (places_of p xs)
+    by true = refl
+    by false = refl
+places-insert p [] (suc k) x le = absurd (omega arith)
+places-insert p (y ∷ ys) (suc k) x le = parted_more p y ys k x (places-insert p ys k x (omega arith))

@@ -15,7 +15,7 @@ use crate::edits::{
     apply_moves, compress, operate_at, purge, report_at, reserve_moves, reserve_operator_at,
     reserve_status_at, set_max,
 };
-use crate::places::{at_side, find, position_of, set_sides};
+use crate::places::{at_side, find, position_of, put_in_place, set_sides};
 use al_base::{Severity, Stamp, Status, Text};
 use al_ids::AlarmKey;
 use al_model::{OperatorEntry, Side};
@@ -286,9 +286,9 @@ impl Contents {
         requires { HasPlace self.old place alarm }
         ensures { self.new.state ≡ record self.old.state { alarms = insert self.old.state.alarms place alarm.state } }
     {
+        put_in_place(&alarm, place, &mut self.listed, &mut self.shelved);
         // There is room for it, so no memory is taken.
         let _ = self.alarms.insert(place, alarm);
-        set_sides(self.alarms.as_slice(), &mut self.listed, &mut self.shelved);
     }
 
     fn operate(&mut self, place: usize, entry: OperatorEntry)

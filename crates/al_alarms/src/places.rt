@@ -1,10 +1,11 @@
+ghost use Rattle.std.specs.List.{AllByRecursion, insert};
 ghost use Rattle.std.specs.Option.{option_and_then, option_copied, option_map};
-ghost use Rattle.std.specs.Prelude.{◌≡◌, ◌+◌, ◌<◌, ◌≤◌, ◌++◌, ◌∷◌, [], None, Some, cond, length, slice_get, vec_capacity, vec_len};
+ghost use Rattle.std.specs.Prelude.{◌≡◌, ◌+◌, ◌<◌, ◌≤◌, ◌^◌, ◌++◌, ◌∷◌, [], List, None, Some, cond, drop, length, map, slice_get, suc, take, vec_capacity, vec_len, ℕ};
 ghost use Rattle.al_model.specs.Alarms.{alarm_of};
 ghost use Rattle.al_model.specs.Validity.{IsInOrder};
-ghost use Rattle.al_alarms.specs.Places.{AreSides};
+ghost use Rattle.al_alarms.specs.Places.{AreParted, AreSides};
 ghost use Rattle.al_alarms.specs.Positions.{IsPositionOf};
-ghost use Rattle.al_alarms.specs.Views.{is_at, is_marked, is_unmarked, states};
+ghost use Rattle.al_alarms.specs.Views.{AlarmView, is_at, is_marked, is_unmarked, states};
 
 use crate::alarm::Alarm;
 use al_ids::AlarmKey;
@@ -98,4 +99,62 @@ pub(crate) fn set_sides(alarms: &[Alarm], listed: &mut Vec<usize>, shelved: &mut
     for (place, alarm) in alarms.iter().enumerate() {
         put_place(alarm, place, listed, shelved);
     }
+}
+
+// ---- a new alarm
+
+/// Adds one to each of the places.
+fn move_up(places: &mut [usize])
+    requires { AllByRecursion (λ i. i + 1 < 2 ^ 64) places.old }
+    ensures { places.new ≡ map suc places.old }
+{
+    for place in places.iter_mut() {
+        *place += 1;
+    }
+}
+
+/// Adds one to each of the places but so many of the first.
+fn move_up_from(places: &mut Vec<usize>, at: usize)
+    requires at { at ≤ vec_len places.old }
+    requires small { AllByRecursion (λ i. i + 1 < 2 ^ 64) places.old.items }
+    ensures items { places.new.items ≡ take at places.old.items ++ map suc (drop at places.old.items) }
+    ensures len { vec_len places.new ≡ vec_len places.old }
+    ensures room { vec_capacity places.new ≡ vec_capacity places.old }
+{
+    move_up(&mut places[at..]);
+}
+
+/// Moves up the places of a side from this one on, and puts it in before them, if it is of the side.
+fn put_in(places: &mut Vec<usize>, place: usize, is_here: bool)
+    requires room { vec_len places.old < vec_capacity places.old }
+    requires small { AllByRecursion (λ i. i + 1 < 2 ^ 64) places.old.items }
+    ensures items { (before after : List ℕ) → AreParted place places.old.items before after → places.new.items ≡ before ++ (cond is_here (place ∷ []) [] ++ map suc after) }
+    ensures room { vec_capacity places.new ≡ vec_capacity places.old }
+{
+    let at = places.as_slice().partition_point(|other| *other < place);
+    move_up_from(places, at);
+    if is_here {
+        // There is room for it, so no memory is taken.
+        let _ = places.insert(at, place);
+    }
+}
+
+/// Puts in the place of a new alarm, and moves up the places behind it. It takes no memory.
+pub(crate) fn put_in_place(
+    alarm: &Alarm,
+    place: usize,
+    listed: &mut Vec<usize>,
+    shelved: &mut Vec<usize>,
+)
+    requires listed { vec_len listed.old < vec_capacity listed.old }
+    requires shelved { vec_len shelved.old < vec_capacity shelved.old }
+    requires listed_small { AllByRecursion (λ i. i + 1 < 2 ^ 64) listed.old.items }
+    requires shelved_small { AllByRecursion (λ i. i + 1 < 2 ^ 64) shelved.old.items }
+    ensures sides { (alarms : List AlarmView) → place ≤ length alarms → AreSides alarms listed.old.items shelved.old.items → AreSides (insert alarms place alarm.now) listed.new.items shelved.new.items }
+    ensures listed_room { vec_capacity listed.new ≡ vec_capacity listed.old }
+    ensures shelved_room { vec_capacity shelved.new ≡ vec_capacity shelved.old }
+{
+    let is_shelved = alarm.is_shelved();
+    put_in(listed, place, !is_shelved);
+    put_in(shelved, place, is_shelved);
 }
