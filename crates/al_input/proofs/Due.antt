@@ -1,5 +1,5 @@
 -- The fault of a reading is the fault of what begins with it.
-use Rattle.std.proofs.Common.{◌≡◌, Result, Ok, Err, ap}
+use Rattle.std.proofs.Common.{◌≡◌, Result, Err, ap}
 use Rattle.al_uri.specs.Answers.{and_then}
 use Rattle.al_input.specs.declared.fault.InputFault.{InputFault}
 

@@ -1,5 +1,5 @@
 -- The test of an inventory's lists says what building it does.
-use Rattle.std.proofs.Common.{◌≡◌, ◌⊎◌, inl, inr, true, false, List}
+use Rattle.std.proofs.Common.{◌≡◌, true, false, List}
 use Rattle.al_types.proofs.SoundTests.{decides_sound}
 use Rattle.al_types.specs.Faults.{IsFirstFault, IsSound}
 use Rattle.al_types.specs.Sound.{is_sound}

@@ -1,6 +1,6 @@
 -- The test of resource matches says what their relation says.
 -- The parts are those of al_ids' law on matching, which hands on no more than the whole.
-use Rattle.std.proofs.Common.{◌≡◌, ◌≢◌, IsTrue, ℕ, ◌<◌, ◌≤◌, Bool, true, false, not, ◌&&◌, ◌||◌, ◌⊎◌, inl, inr, Option, Some, None, IfSome, List, [], ◌∷◌, length, refl, sym, ap, subst, ◌∙◌}
+use Rattle.std.proofs.Common.{◌≡◌, ◌≢◌, IsTrue, ℕ, Bool, true, false, not, ◌&&◌, ◌||◌, ◌⊎◌, inl, inr, Option, Some, None, List, [], ◌∷◌, length, refl, sym, ap, subst, ◌∙◌}
 use Rattle.std.specs.Bool.{Decides}
 use Rattle.std.specs.Cmp.Lexicographic.{bytes_decides}
 use Rattle.std.specs.List.{AllByRecursion, join_with_byte, list_all}
@@ -12,7 +12,7 @@ use Rattle.al_base.proofs.FormTests.{decides_le, decides_utf8}
 use Rattle.al_base.specs.Identifiers.{is_identifier}
 use Rattle.al_ids.proofs.OidFronts.{IsArc}
 use Rattle.al_ids.proofs.SpellingLemmas.{arcs_again, steps_of_path}
-use Rattle.al_ids.specs.Matches.{is_rooted, IsMatch, IsOther, IsPatternMatch, IsXPath}
+use Rattle.al_ids.specs.Matches.{is_rooted, IsMatch, IsPatternMatch, IsXPath}
 use Rattle.al_ids.specs.Matching.{is_same, are_rooted, is_oid, are_names, is_predicate, is_step, has_steps, is_of_steps, is_pattern, is_xpath}
 use Rattle.al_ids.specs.Oids.{is_arc, arc_value, IsRooted, IsOid}
 use Rattle.al_ids.specs.Paths.{Predicate, Step, path_text, AreNames, IsPredicate, IsStep}

@@ -1,13 +1,13 @@
 -- What reads as a natural number is spelled in plain digits.
-use Rattle.std.proofs.Common.{◌≡◌, ℕ, ◌<◌, ◌^◌, ◌&&◌, Bool, true, false, if◌then◌else◌, Option, None, Some, List, length, drop, refl}
+use Rattle.std.proofs.Common.{◌≡◌, ℕ, ◌^◌, ◌&&◌, Bool, true, false, if◌then◌else◌, None, Some, List, length, drop, refl}
 use Rattle.std.specs.Bool.{Decides}
 use Rattle.std.specs.Float.{binary64, float_is_finite}
 use Rattle.std.specs.Prelude.{◌==◌, nat_lt, nat_le, not, slice_index}
-use Rattle.std.proofs.lemmas.Bool.{false≢true, ltb-true, eqb-true}
+use Rattle.std.proofs.lemmas.Bool.{false≢true, ltb-true}
 use Rattle.std.proofs.lemmas.Bool.Decides.{Decides-eqb}
 use Rattle.fast_float.specs.Text.{IsInteger, Parts, digits_of, minus, nearest, scan, with_sign}
 use Rattle.serde_json.proofs.Numbers.{number_of-decimal}
-use Rattle.serde_json.specs.Data.{Num, unsigned, negative, float}
+use Rattle.serde_json.specs.Data.{unsigned, negative, float}
 use Rattle.serde_json.specs.Read.{float_of, is_integer, number_from, number_of}
 use Rattle.al_input.specs.Numbers.{DecimalsAreNaturals, IsPlainNumber, NaturalsArePlain}
 

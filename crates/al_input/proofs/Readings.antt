@@ -1,6 +1,6 @@
 -- What is read by the parts of a reading passes their tests.
-use Rattle.std.proofs.Common.{◌≡◌, ◌≢◌, ℕ, suc, zero, ◌≤◌, ◌<◌, ◌||◌, ◌&&◌, nat_le, Bool, true, false, if◌then◌else◌, Option, None, Some, Result, Ok, Err, IfOk, IfSome, List, [], ◌∷◌, length, refl, subst, ap, arith, unwrap_or, All}
-use Rattle.std.specs.Bool.{Decides, ⊤}
+use Rattle.std.proofs.Common.{◌≡◌, ◌≢◌, ℕ, suc, zero, ◌≤◌, ◌||◌, ◌&&◌, nat_le, Bool, true, false, if◌then◌else◌, Option, None, Some, Result, Ok, Err, IfOk, IfSome, List, [], ◌∷◌, length, refl, subst, ap, arith, unwrap_or, All}
+use Rattle.std.specs.Bool.{Decides}
 use Rattle.std.specs.List.{AllPairs, list_any}
 use Rattle.std.specs.Prelude.{not}
 use Rattle.std.proofs.lemmas.Bool.{false≢true}
@@ -11,11 +11,10 @@ use Rattle.al_base.specs.Identifiers.{IsTypeName, is_type_name}
 use Rattle.al_base.specs.Limits.{IsText, is_text}
 use Rattle.al_ids.specs.Matches.{IsMatch}
 use Rattle.al_model.specs.Limits.{IsPatternWithin}
-use Rattle.al_pattern.specs.Reading.{first_fault}
 use Rattle.al_uri.specs.Answers.{and_then, each, or_fault}
 use Rattle.al_uri.specs.TypeNames.{with_module}
 use Rattle.serde_json.specs.Data.{Data, Items}
-use Rattle.serde_json.specs.Find.{as_array, as_number, as_u64}
+use Rattle.serde_json.specs.Find.{as_array}
 use Rattle.al_input.proofs.MatchTests.{decides_match, decides_spelled_pattern}
 use Rattle.al_input.specs.Forms.{is_match, is_pattern_text}
 use Rattle.al_input.specs.Members.{one_of, optional, read_some, required, value_at, with_default}

@@ -1,5 +1,5 @@
 -- The tests of texts say what their relations say, in forms that the search can use.
-use Rattle.std.proofs.Common.{◌≡◌, ℕ, Bool, true, false, Ok, List, length, refl, sym, ap}
+use Rattle.std.proofs.Common.{◌≡◌, ℕ, Bool, true, false, Ok, List, refl, sym, ap}
 use Rattle.std.specs.Bool.{Decides}
 use Rattle.std.specs.Prelude.{IsUtf8}
 use Rattle.std.specs.Str.{is_utf8}

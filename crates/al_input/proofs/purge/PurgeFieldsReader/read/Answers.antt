@@ -1,6 +1,4 @@
-use Rattle.std.proofs.Common.{rules, refl, arith}
-use Rattle.std.proofs.lemmas.Grind.{common_steps}
-use Rattle.al_input.proofs.Due.{fault_first}
+use Rattle.std.proofs.Common.{refl}
 use Rattle.al_input.specs.Inputs.{purge}
 use Rattle.al_input.proofs.purge.PurgeFieldsReader.read.Goals as goal
 
