@@ -3,6 +3,7 @@ pub mod InventoryTests
 pub mod Listed
 pub mod MatchTests
 pub mod Named
+pub mod PlainLemmas
 pub mod PlainNumbers
 pub mod Readings
 pub mod TextTests

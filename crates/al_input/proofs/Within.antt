@@ -1,13 +1,12 @@
 -- What is asked is within the limits of requests.
-use Rattle.std.proofs.Common.{rules, ◌≡◌, ℕ, zero, suc, ◌+◌, ◌*◌, ◌≤◌, Bool, true, false, if◌then◌else◌, Option, None, Some, Result, Ok, Err, IfOk, IfSome, List, [], ◌∷◌, length, refl, subst, arith, All, codes, ◌==◌}
+use Rattle.std.proofs.Common.{rules, ◌≡◌, ℕ, zero, suc, ◌*◌, ◌≤◌, Bool, true, false, if◌then◌else◌, Option, None, Some, Result, Ok, Err, IfOk, IfSome, List, [], ◌∷◌, refl, subst, arith, All, codes, ◌==◌}
 use Rattle.std.specs.Bool.{⊤}
 use Rattle.std.specs.Cmp.Lexicographic.{pointwise, bytes_decides}
-use Rattle.std.specs.List.{AllPairs, Contains, count_by}
+use Rattle.std.specs.List.{Contains, count_by}
 use Rattle.std.specs.Option.{option_map}
 use Rattle.al_base.specs.Identifiers.{IsTypeName}
 use Rattle.al_base.specs.Limits.{IsAge, IsDescription, IsFilterName, IsOperatorText, IsQualifier, IsResourceText, IsSeveritySet, IsShelfName, IsStatusChanges, IsText, age_units}
 use Rattle.al_base.specs.Names.{event_type_name, rank_of, severity_name, state_name, status_name}
-use Rattle.al_base.specs.declared.event_type.EventType.{EventType}
 use Rattle.al_base.specs.declared.event_type.EventType.TheVariants.{Other}
 use Rattle.al_base.specs.declared.operator.OperatorState.{OperatorState}
 use Rattle.al_base.specs.declared.operator.OperatorState.TheVariants.{None0, Ack, Closed, Shelved, UnShelved}
@@ -15,40 +14,35 @@ use Rattle.al_base.specs.declared.severity.Severity.{Severity}
 use Rattle.al_base.specs.declared.severity.Severity.TheVariants.{Indeterminate, Warning, Minor, Major, Critical}
 use Rattle.al_ids.specs.Matches.{IsMatch}
 use Rattle.al_ids.specs.declared.key.AlarmKey.{AlarmKey}
-use Rattle.al_model.specs.Limits.{IsKeyWithin, IsReportWithin, IsOperators, IsPatternWithin, IsTypeMatchWithin, IsShelfWithin, IsSpotWithin, IsSpottedWithin, IsPurgeWithin, IsCompressWithin, IsIdentityWithin, IsRowWithin, IsInventoryWithin, IsRequestWithin}
+use Rattle.al_model.specs.Limits.{IsOperators, IsPatternWithin, IsTypeMatchWithin, IsShelfWithin, IsSpotWithin, IsPurgeWithin, IsCompressWithin, IsIdentityWithin, IsRowWithin, IsInventoryWithin, IsRequestWithin}
 use Rattle.al_model.specs.declared.event.Side.{Side}
 use Rattle.al_model.specs.declared.event.Side.TheVariants as sides
 use Rattle.al_model.specs.declared.request.Request.{Request}
 use Rattle.al_model.specs.declared.request.Request.TheVariants as requests
-use Rattle.al_select.specs.declared.compress.CompressFilter.{CompressFilter}
 use Rattle.al_select.specs.declared.purge.Clearance.TheVariants.{Any}
-use Rattle.al_select.specs.declared.purge.PurgeFilter.{PurgeFilter}
 use Rattle.al_shelf.specs.Exact.{same_type_match_decides}
 use Rattle.al_shelf.specs.Same.{same_type_match}
-use Rattle.al_shelf.specs.declared.shelf.Shelf.{Shelf}
 use Rattle.al_shelf.specs.declared.shelf.TypeMatch.{TypeMatch}
 use Rattle.al_shelf.specs.declared.spot.Spot.{Spot}
 use Rattle.al_shelf.specs.declared.spot.Spot.TheVariants.{First, Last, Before, After, Keep}
 use Rattle.al_types.proofs.SoundTests.{decides_sound}
-use Rattle.al_types.specs.Inventories.{InventoryView}
 use Rattle.al_types.specs.Sound.{is_sound}
 use Rattle.al_types.specs.declared.row.Identity.{Identity}
 use Rattle.al_types.specs.declared.row.Row.{Row}
-use Rattle.al_uri.specs.Answers.{and_then}
 use Rattle.al_uri.specs.Limits as uri
 use Rattle.al_uri.specs.declared.target.Target.{Target}
 use Rattle.al_uri.specs.declared.target.Target.TheVariants as targets
 use Rattle.serde_json.specs.Data.{Data}
 use Rattle.serde_json.specs.Find.{as_str}
-use Rattle.al_input.proofs.Readings.{AreFew, AreOther, Differ, IsBetween, ok_default, ok_if, ok_list, ok_match, ok_number, ok_one_of, ok_optional, ok_passed, ok_pattern, ok_required, ok_set, ok_text, ok_then, ok_type_name, ok_value}
+use Rattle.al_input.proofs.Readings.{AreFew, AreOther, IsBetween, ok_default, ok_if, ok_list, ok_match, ok_number, ok_one_of, ok_optional, ok_passed, ok_pattern, ok_required, ok_set, ok_text, ok_then, ok_type_name, ok_value}
 use Rattle.al_input.specs.Faults.{Answers}
-use Rattle.al_input.specs.Inputs.{action, action_input, action_members, age, age_members, bit_for, bit_of, body, body_or, built, by, compared, compress, compress_input, compress_members, creation_input, criterion, criterion_members, criterion_names, criterion_qualifier, criterion_type, identity, identity_members, in_unit, input_of, inventory, inventory_input, inventory_members, is_operators, is_wanted, level_input, max_input, maximum, maximum_of, mode_input, newest, newest_members, no_compress_filter, no_purge_filter, operators_state, purge, purge_input, purge_members, report, report_input, report_members, report_names, report_qualifier, report_resource, report_status, report_text, report_type, row, row_clears, row_description, row_event_type, row_members, row_names, row_qualifier, row_resources, row_severities, row_type, set_of, severity_set, shelf, shelf_body, shelf_description, shelf_input, shelf_members, shelf_name, shelf_names, shelf_resources, shelf_types, whole}
-use Rattle.al_input.specs.Limits.{IsActionWithin, IsAskedWithin}
+use Rattle.al_input.specs.Inputs.{action, action_input, action_members, age, age_members, bit_for, bit_of, body, body_or, built, compared, compress, compress_input, compress_members, creation_input, criterion, criterion_members, criterion_names, criterion_qualifier, criterion_type, identity, identity_members, in_unit, input_of, inventory, inventory_input, inventory_members, is_operators, is_wanted, level_input, max_input, maximum, maximum_of, mode_input, newest, newest_members, no_compress_filter, no_purge_filter, operators_state, purge, purge_input, purge_members, report, report_input, report_members, report_names, report_qualifier, report_resource, report_status, report_text, report_type, row, row_clears, row_description, row_event_type, row_members, row_names, row_qualifier, row_resources, row_severities, row_type, set_of, severity_set, shelf, shelf_body, shelf_description, shelf_input, shelf_members, shelf_name, shelf_names, shelf_resources, shelf_types, whole}
+use Rattle.al_input.specs.Limits.{IsAskedWithin}
 use Rattle.al_input.specs.Members.{known_only, one_of, optional, required, with_default}
 use Rattle.al_input.specs.Readers.{flag, list, number, only, passed, pattern, resource_match, set, text, type_name, word}
 use Rattle.al_input.specs.Words.{clearance_name, clearances, event_types, mode_name, modes, severities, states, statuses}
 use Rattle.al_input.specs.declared.asked.Asked.{Asked}
-use Rattle.al_input.specs.declared.asked.Asked.TheVariants.{Whole, Operate}
+use Rattle.al_input.specs.declared.asked.Asked.TheVariants.{Operate}
 use Rattle.al_input.specs.declared.fault.InputFault.{InputFault}
 use Rattle.al_input.specs.declared.fault.InputFault.TheVariants as faults
 
@@ -307,6 +301,11 @@ report_within : (d : Data) → IfOk (report_input d) IsAskedWithin
 unfolding report_input
 report_within d =
     ok_whole IsRequestWithin (λ request. request) _ (λ request h. h) (ok_body IsRequestWithin (codes "input") (codes "alarmd:input") report report_of_within d)
+
+-- what a report's body asks is within the limits of requests
+pub plain_within : (d : Data) (answer : Result Request InputFault) → Answers (body (codes "input") (codes "alarmd:input") report d) answer → IfOk answer IsRequestWithin
+plain_within d (Ok request) is = subst (λ r. IfOk r IsRequestWithin) is (ok_body IsRequestWithin (codes "input") (codes "alarmd:input") report report_of_within d)
+plain_within d (Err e) is = tt
 
 -- ---- inventories
 

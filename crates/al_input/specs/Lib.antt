@@ -4,5 +4,6 @@ pub mod Inputs
 pub mod Limits
 pub mod Members
 pub mod Numbers
+pub mod Plain
 pub mod Readers
 pub mod Words

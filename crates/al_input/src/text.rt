@@ -49,7 +49,12 @@ impl<const LEAST: usize, const MOST: usize> Reader for TextOf<LEAST, MOST> {
 }
 
 #[tactic(auto, using(crate::proofs::TextTests::utf8_holds, crate::proofs::TextTests::utf8_fails), unfolding(crate::specs::Readers::passed, al_base::specs::Limits::is_text))]
-fn text_of(alloc: Global, least: usize, most: usize, bytes: &[u8]) -> Result<Text, InputFault>
+pub(crate) fn text_of(
+    alloc: Global,
+    least: usize,
+    most: usize,
+    bytes: &[u8],
+) -> Result<Text, InputFault>
     ensures { Answers (passed (is_text least most) bytes.now) result }
 {
     if bytes.len() < least || bytes.len() > most {
@@ -77,7 +82,7 @@ impl Reader for TypeName {
 }
 
 #[tactic(auto, using(crate::proofs::TextTests::type_holds, crate::proofs::TextTests::type_fails), unfolding(crate::specs::Readers::passed))]
-fn type_of(alloc: Global, bytes: &[u8]) -> Result<TypeId, InputFault>
+pub(crate) fn type_of(alloc: Global, bytes: &[u8]) -> Result<TypeId, InputFault>
     ensures { Answers (passed is_type_name (with_module bytes.now)) result }
 {
     match read_type(alloc, bytes) {
@@ -102,7 +107,7 @@ impl Reader for ResourceText {
 }
 
 #[tactic(auto, using(crate::proofs::TextTests::resource_holds, crate::proofs::TextTests::resource_fails), unfolding(crate::specs::Readers::passed))]
-fn resource_of(alloc: Global, bytes: &[u8]) -> Result<Resource, InputFault>
+pub(crate) fn resource_of(alloc: Global, bytes: &[u8]) -> Result<Resource, InputFault>
     ensures { Answers (passed (is_text 1 512) bytes.now) result }
 {
     match Resource::read(alloc, bytes) {
@@ -182,7 +187,7 @@ pub fn text_or_empty(
     }
 }
 
-fn empty_text(alloc: Global) -> Result<Text, InputFault>
+pub(crate) fn empty_text(alloc: Global) -> Result<Text, InputFault>
     ensures { Answers (Ok []) result }
 {
     match Text::read(alloc, b"") {

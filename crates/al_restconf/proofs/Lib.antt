@@ -1,4 +1,5 @@
 pub mod Carrying
 pub mod Json
 pub mod Paging
+pub mod PlainReports
 pub mod Values

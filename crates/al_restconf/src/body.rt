@@ -15,7 +15,7 @@ use crate::method::Method;
 use crate::operator::operator_at;
 use al_base::{Copied, Text};
 use al_http::HttpRequest;
-use al_input::{Asked, input};
+use al_input::{Asked, input, plain_report};
 use al_model::Request;
 use al_uri::Target;
 use serde_json::error::Category;
@@ -89,6 +89,17 @@ fn body_asks(alloc: Global, target: &Target, request: &HttpRequest) -> Result<Re
     asked_by(operator, asked)
 }
 
+/// What a report asks, where its members are texts, as those of instrumentation mostly are. It is read without a tree. None tells nothing.
+fn plain_asks(alloc: Global, request: &HttpRequest) -> Option<Result<Request, Fault>>
+    ensures exact { IfSome result (λ answer. Answers (body_asks Target.Report (message_of request.now)) answer) }
+    ensures within { IfSome result (λ answer. IfOk answer IsRequestWithin) }
+{
+    match plain_report(alloc, request.body())? {
+        Ok(asked) => Some(Ok(asked)),
+        Err(fault) => Some(Err(Fault::from(fault))),
+    }
+}
+
 /// What the request asks of the alarm list, by a method that isn't a read.
 #[tactic(auto, unfolding(crate::specs::Bodies::request_asks, al_model::specs::Limits::IsRequestWithin))]
 pub fn request_asks(
@@ -104,6 +115,10 @@ pub fn request_asks(
         (Method::Delete, Target::OneShelf { name, spot: _ }) => Ok(Request::DropShelf {
             name: name.copy(alloc)?,
         }),
+        (_, Target::Report) => match plain_asks(alloc, request) {
+            Some(answer) => answer,
+            None => body_asks(alloc, target, request),
+        },
         _ => body_asks(alloc, target, request),
     }
 }
