@@ -10,6 +10,8 @@ mod limits;
 #[cfg(test)]
 mod objects;
 #[cfg(test)]
+mod plain;
+#[cfg(test)]
 mod rules;
 #[cfg(test)]
 mod shelves;

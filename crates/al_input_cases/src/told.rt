@@ -45,7 +45,7 @@ fn read(alloc: Global, target: &Target, body: &str) -> Result<String, AllocError
     }
 }
 
-fn request_in_words(alloc: Global, request: &Request) -> Result<String, AllocError> {
+pub fn request_in_words(alloc: Global, request: &Request) -> Result<String, AllocError> {
     match request {
         Request::Report { key, status, text } => {
             let mut words = keyed(alloc, "report", key, status.name())?;
