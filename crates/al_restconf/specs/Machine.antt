@@ -33,15 +33,20 @@ done_by before origin reading target Head request = only_read (read_of before ta
 done_by before origin reading target method request =
     and_then (request_asks method target request) (λ asked. changed before origin reading target asked)
 
--- What the request comes to, by the first of these that refuses: the path with its query, the method, the types of answers, the type of the body,
--- the body, what it asks for, and the alarm list.
-unfoldable pub verdict_of : List Entry → ℕ → ℕ → RequestMessage → Result Verdict Fault
-verdict_of before origin reading request =
+-- The resource that the request's head names and a method that this has, by the first of these that refuses: the path with its query, the method,
+-- the types of answers, and the type of the body.
+unfoldable pub admitted : RequestMessage → Result (Target × Method) Fault
+admitted request =
     and_then (target_in request) (λ target.
     and_then (method_at target request.method) (λ method.
     and_then (accepted target request) (λ _.
     and_then (typed method request) (λ _.
-    done_by before origin reading target method request))))
+    Ok (target, method)))))
+
+-- What the request comes to: what refuses its head comes first, then the body, what it asks for, and the alarm list.
+unfoldable pub verdict_of : List Entry → ℕ → ℕ → RequestMessage → Result Verdict Fault
+verdict_of before origin reading request =
+    and_then (admitted request) (λ named. done_by before origin reading named.0 named.1 request)
 
 -- a response to HEAD leaves its body out, a refusal's too (RFC 9110, section 9.3.2)
 abbrev pub is_head : RequestMessage → Bool

@@ -3,8 +3,8 @@ ghost use Rattle.al_http.specs.Services.{Adds};
 ghost use Rattle.al_http.specs.Shown.{message_of};
 ghost use Rattle.al_office.specs.Journaled.{journaled_mark};
 ghost use Rattle.al_restconf.specs.Changes.{Carries};
-ghost use Rattle.al_restconf.specs.Faults.{told};
-ghost use Rattle.al_restconf.specs.Machine.{IsAnswer, done_by, is_head, verdict_of};
+ghost use Rattle.al_restconf.specs.Faults.{Answers, told};
+ghost use Rattle.al_restconf.specs.Machine.{IsAnswer, admitted, done_by, is_head, verdict_of};
 ghost use Rattle.al_uri.specs.Limits.{IsTargetWithin};
 ghost use Rattle.std.specs.Prelude.{◌≡◌, ◌≤◌, IfOk, OnErr, Some, length};
 
@@ -56,6 +56,19 @@ fn done_by<D: Disk>(
     }
 }
 
+/// What the request's head names, its resource and a method that this has; or the first refusal that is due before the body is read.
+#[tactic(auto, unfolding(crate::specs::Machine::admitted))]
+fn admitted(alloc: Global, request: &HttpRequest) -> Result<(Target, Method), Fault>
+    ensures exact { Answers (admitted (message_of request.now)) result }
+    ensures within { IfOk result (λ named. IsTargetWithin named.0) }
+{
+    let target = read_target(alloc, request)?;
+    let method = Method::at(&target, request.method())?;
+    check_accept(&target, request)?;
+    check_type(method, request)?;
+    Ok((target, method))
+}
+
 /// What the request is answered, the first refusal that is due or what it asks for.
 #[tactic(auto, unfolding(crate::specs::Machine::verdict_of))]
 fn answered<D: Disk>(
@@ -71,10 +84,7 @@ fn answered<D: Disk>(
     ensures fixed { office.new.fixed ≡ office.old.fixed }
     ensures later { D.faults office.old.journal.disk ≤ D.faults office.new.journal.disk }
 {
-    let target = read_target(alloc, request)?;
-    let method = Method::at(&target, request.method())?;
-    check_accept(&target, request)?;
-    check_type(method, request)?;
+    let (target, method) = admitted(alloc, request)?;
     done_by(alloc, office, origin, &target, method, request, now)
 }
 
