@@ -173,15 +173,34 @@ fn key(alloc: Global, parts: &[&str; 3]) -> Result<AlarmKey, Fail> {
     })
 }
 
-#[test]
-fn first_of_those_without_criteria(rt: HostRuntime) -> Result<(), Fail> {
-    let alloc = rt.alloc();
+/// The names that go from a, b and c, one after the other, and the place of the first shelf that takes a key then.
+const FIRSTS: [(&[&str], Option<usize>); 4] = [
+    (&[], Some(0)),
+    (&["a"], Some(0)),
+    (&["a", "c"], Some(0)),
+    (&["a", "c", "b"], None),
+];
+
+/// A copy of the shelves a, b and c, without those of these names.
+fn shelves_without(alloc: Global, names: &[&str]) -> Result<Shelves, Fail> {
+    let mut shelves = three_shelves(alloc)?.copy(alloc)?;
+    for name in names {
+        remove(&mut shelves, alloc, name)?;
+    }
+    Ok(shelves)
+}
+
+/// The place of the first shelf without criteria that takes a key, once those of these names are gone.
+fn first_without(alloc: Global, names: &[&str]) -> Result<Option<usize>, Fail> {
     let inventory = inventory(alloc)?;
     let key = key(alloc, &["eth1", "ex:link", ""])?;
-    let mut shelves = three_shelves(alloc)?.copy(alloc)?;
-    for (first, name) in [(Some(0), "a"), (Some(0), "c"), (Some(0), "b"), (None, "d")] {
-        assert_eq!(rt; shelves.first(&inventory, &key), first, "{name}");
-        remove(&mut shelves, alloc, name)?;
+    Ok(shelves_without(alloc, names)?.first(&inventory, &key))
+}
+
+#[test]
+fn first_of_those_without_criteria(rt: HostRuntime) -> Result<(), Fail> {
+    for (names, first) in &FIRSTS {
+        assert!(rt; first_without(rt.alloc(), names)? == *first);
     }
     Ok(())
 }
@@ -239,14 +258,17 @@ const CRITERIA: [([&str; 3], [&str; 3], bool); 10] = [
     (["1.3.6", "ex:base", ""], ["1.3.6", "ex:link", "a"], false),
 ];
 
+/// Whether a copy of the shelf of these criteria takes the key.
+fn takes(alloc: Global, criteria: &[&str; 3], parts: &[&str; 3]) -> Result<bool, Fail> {
+    let inventory = inventory(alloc)?;
+    let key = key(alloc, parts)?;
+    Ok(shelf(alloc, criteria)?.copy(alloc)?.takes(&inventory, &key))
+}
+
 #[test]
 fn takes_by_criteria(rt: HostRuntime) -> Result<(), Fail> {
-    let alloc = rt.alloc();
-    let inventory = inventory(alloc)?;
     for (criteria, parts, wanted) in &CRITERIA {
-        let shelf = shelf(alloc, criteria)?.copy(alloc)?;
-        let answer = shelf.takes(&inventory, &key(alloc, parts)?);
-        assert_eq!(rt; answer, *wanted, "{} {}", parts[0], parts[2]);
+        assert!(rt; takes(rt.alloc(), criteria, parts)? == *wanted);
     }
     Ok(())
 }
