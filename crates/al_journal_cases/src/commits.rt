@@ -50,40 +50,71 @@ fn record(alloc: Global, len: usize) -> Result<Record, AllocError> {
     Record::of(alloc, &payload)
 }
 
+/// A call of a commit that fails, whether the journal is in doubt then, and how many calls were made once that is settled.
+const FAULTS: [(u64, bool, u64); 4] = [(4, false, 4), (5, false, 5), (6, true, 8), (7, true, 9)];
+
+/// Whether a commit whose call of this number fails is refused, with a doubt or without one.
+fn refuses(journal: &mut Journal<Counted>, piece: &Record, doubt: bool) -> bool
+    requires over { journal.old.next ≡ journal.old.gate }
+    requires sure { journal.old.doubt ≡ false }
+{
+    let answer = journal.commit(piece);
+    answer == Err(CommitFault::Disk) && journal.in_doubt() == doubt && journal.used() == 14
+}
+
+/// Whether a doubt, if there is one, is settled.
+fn settles(journal: &mut Journal<Counted>) -> bool {
+    journal.settle().is_ok() && !journal.in_doubt()
+}
+
+/// Whether a disk of so many calls shows so many payloads.
+fn shows(alloc: Global, disk: &Counted, calls: u64, payloads: u64) -> bool {
+    disk.calls() == calls && shown(alloc, disk.image()) == Ok(payloads)
+}
+
+/// Whether a commit whose call of this number fails is refused, and leaves no payload once its doubt is settled.
+fn fails_at(alloc: Global, fails: u64, doubt: bool, calls: u64) -> Result<bool, Fail> {
+    let piece = record(alloc, 3)?;
+    let mut journal = empty_journal(alloc, &[fails])?;
+    let is_refused = refuses(&mut journal, &piece, doubt);
+    let is_settled = settles(&mut journal);
+    Ok(is_refused && is_settled && shows(alloc, &journal.into_disk(), calls, 0))
+}
+
 #[test]
 fn fails_at_each_call_of_a_commit(rt: HostRuntime) -> Result<(), Fail> {
-    let piece = record(rt.alloc(), 3)?;
-    let cases: [(u64, bool, u64); 4] = [(4, false, 4), (5, false, 5), (6, true, 8), (7, true, 9)];
-    for (fails, doubt, calls) in &cases {
-        let mut journal = empty_journal(rt.alloc(), &[*fails])?;
-        assert_eq!(rt; journal.commit(&piece), Err(CommitFault::Disk), "{fails}");
-        assert_eq!(rt; journal.in_doubt(), *doubt, "{fails}");
-        assert_eq!(rt; journal.used(), 14);
-        assert_eq!(rt; journal.settle(), Ok(()), "{fails}");
-        assert_eq!(rt; journal.in_doubt(), false, "{fails}");
-        let disk = journal.into_disk();
-        assert_eq!(rt; disk.calls(), *calls, "{fails}");
-        assert_eq!(rt; shown(rt.alloc(), disk.image())?, 0, "{fails}");
+    for (fails, doubt, calls) in &FAULTS {
+        assert!(rt; fails_at(rt.alloc(), *fails, *doubt, *calls)?, "{fails}");
     }
     Ok(())
 }
 
+/// The length of a payload, what its commit answers, how many bytes are used then, and how many calls were made.
+const LENGTHS: [(usize, Result<(), CommitFault>, u64, u64); 3] = [
+    (0, Ok(()), 19, 7),
+    (4_077, Ok(()), 4_096, 7),
+    (4_078, Err(CommitFault::Full), 14, 3),
+];
+
+/// Whether a commit of so many bytes answers so, leaves so many used, and is shown where it was answered by `Ok`.
+fn commits(
+    alloc: Global,
+    len: usize,
+    wanted: &Result<(), CommitFault>,
+    used: u64,
+    calls: u64,
+) -> Result<bool, Fail> {
+    let piece = record(alloc, len)?;
+    let mut journal = empty_journal(alloc, &[])?;
+    let is_right = journal.commit(&piece) == *wanted && journal.used() == used;
+    let payloads = if wanted.is_ok() { 1 } else { 0 };
+    Ok(is_right && shows(alloc, &journal.into_disk(), calls, payloads))
+}
+
 #[test]
 fn commits_up_to_its_capacity(rt: HostRuntime) -> Result<(), Fail> {
-    let cases: [(usize, Result<(), CommitFault>, u64, u64); 3] = [
-        (0, Ok(()), 19, 7),
-        (4_077, Ok(()), 4_096, 7),
-        (4_078, Err(CommitFault::Full), 14, 3),
-    ];
-    for (len, result, used, calls) in &cases {
-        let piece = record(rt.alloc(), *len)?;
-        let mut journal = empty_journal(rt.alloc(), &[])?;
-        assert_eq!(rt; journal.commit(&piece), *result, "{len}");
-        assert_eq!(rt; journal.used(), *used, "{len}");
-        let disk = journal.into_disk();
-        assert_eq!(rt; disk.calls(), *calls, "{len}");
-        let shows = if result.is_ok() { 1 } else { 0 };
-        assert_eq!(rt; shown(rt.alloc(), disk.image())?, shows, "{len}");
+    for (len, answer, used, calls) in &LENGTHS {
+        assert!(rt; commits(rt.alloc(), *len, answer, *used, *calls)?, "{len}");
     }
     Ok(())
 }

@@ -30,49 +30,65 @@ fn walked(alloc: Global, image: &[u8]) -> Result<(u64, u64), OpenFault> {
     }
 }
 
+/// What is no journal: it has no whole birth, or its capacity is 4,095.
+const NO_JOURNALS: [&[u8]; 3] = [b"", BIRTH, b"\x01ALJ1\x00\x00\x00\x00\x00\x00\x0f\xff\x00"];
+
+/// The bytes behind a birth, how many zeros follow, and how many payloads are there, or the fault.
+const WALKS: [(&[u8], usize, Result<u64, OpenFault>); 11] = [
+    (b"\x00", 0, Ok(0)),
+    (b"\x02", 5, Ok(0)),
+    (b"\x01", 0, Err(OpenFault::TornLength(0))),
+    (b"\x01\xff\xff\xff\xff", 0, Err(OpenFault::TornLength(0))),
+    (b"\x01\0\0\0\x02ab", 0, Err(OpenFault::TornLength(0))),
+    (b"\x01\0\0\0\x02ab\x00", 0, Ok(1)),
+    (
+        b"\x01\0\0\0\x02ab\x01\0\0",
+        0,
+        Err(OpenFault::TornLength(1)),
+    ),
+    (b"\x01\0\0\0\x02ab\x01\0\0\0\0\x00", 9, Ok(2)),
+    (
+        b"\x01\0\0\0\x02ab\x01\0\0\0\x05",
+        5,
+        Err(OpenFault::TornLength(1)),
+    ),
+    (b"\x01\0\0\x0f\xed", 5_000, Ok(1)),
+    (b"\x01\0\0\x0f\xee", 5_000, Err(OpenFault::TornLength(0))),
+];
+
+/// Whether a walk over the bytes behind a birth, with so many zeros, ends so.
+fn walks(
+    alloc: Global,
+    bytes: &[u8],
+    more: usize,
+    wanted: &Result<u64, OpenFault>,
+) -> Result<bool, Fail> {
+    let image = journal_of(alloc, bytes, more)?;
+    Ok(match walked(alloc, &image) {
+        Ok((count, _)) => *wanted == Ok(count),
+        Err(fault) => *wanted == Err(fault),
+    })
+}
+
 #[test]
 fn opens_whole_journals_alone(rt: HostRuntime) -> Result<(), Fail> {
-    let alloc = rt.alloc();
-    assert_eq!(rt; walked(alloc, b""), Err(OpenFault::NotAJournal));
-    assert_eq!(rt; walked(alloc, BIRTH), Err(OpenFault::NotAJournal));
-    let small = b"\x01ALJ1\x00\x00\x00\x00\x00\x00\x0f\xff\x00";
-    assert_eq!(rt; walked(alloc, small), Err(OpenFault::NotAJournal));
-    let cases: [(&[u8], usize, Result<u64, OpenFault>); 11] = [
-        (b"\x00", 0, Ok(0)),
-        (b"\x02", 5, Ok(0)),
-        (b"\x01", 0, Err(OpenFault::TornLength(0))),
-        (b"\x01\xff\xff\xff\xff", 0, Err(OpenFault::TornLength(0))),
-        (b"\x01\0\0\0\x02ab", 0, Err(OpenFault::TornLength(0))),
-        (b"\x01\0\0\0\x02ab\x00", 0, Ok(1)),
-        (
-            b"\x01\0\0\0\x02ab\x01\0\0",
-            0,
-            Err(OpenFault::TornLength(1)),
-        ),
-        (b"\x01\0\0\0\x02ab\x01\0\0\0\0\x00", 9, Ok(2)),
-        (
-            b"\x01\0\0\0\x02ab\x01\0\0\0\x05",
-            5,
-            Err(OpenFault::TornLength(1)),
-        ),
-        (b"\x01\0\0\x0f\xed", 5_000, Ok(1)),
-        (b"\x01\0\0\x0f\xee", 5_000, Err(OpenFault::TornLength(0))),
-    ];
-    for (bytes, more, expected) in &cases {
-        let image = journal_of(alloc, bytes, *more)?;
-        let found = walked(alloc, &image).map(|both| both.0);
-        assert_eq!(rt; found, *expected, "{bytes:?}");
+    for image in &NO_JOURNALS {
+        assert!(rt; walked(rt.alloc(), image) == Err(OpenFault::NotAJournal));
+    }
+    for (bytes, more, wanted) in &WALKS {
+        assert!(rt; walks(rt.alloc(), bytes, *more, wanted)?, "{bytes:?}");
     }
     Ok(())
 }
 
-/// A file of 4,088 bytes, walked over: one block, read once. One of 12,301 in two walks of four blocks, of which the last stays in memory.
-#[test]
-fn reads_in_blocks(rt: HostRuntime) -> Result<(), Fail> {
-    let alloc = rt.alloc();
+/// Whether a journal of so many bytes has one payload, and is walked over in three calls.
+fn is_one_block(alloc: Global, len: usize) -> Result<bool, Fail> {
     let one = journal_of(alloc, b"\x01\0\0\x0f\xe5", 4_070)?;
-    assert_eq!(rt; one.len(), 4_088);
-    assert_eq!(rt; walked(alloc, &one), Ok((1, 3)));
+    Ok(one.len() == len && walked(alloc, &one) == Ok((1, 3)))
+}
+
+/// A journal of three payloads of 4,091 bytes.
+fn three_payloads(alloc: Global) -> Result<Vec<u8>, AllocError> {
     let mut many = Vec::from_slice(alloc, b"\x01ALJ1\x00\x00\x00\x00\x00\x00\x40\x00")?;
     for _ in 0..3 {
         many.extend_from_slice(b"\x01\0\0\x0f\xfb")?;
@@ -81,9 +97,20 @@ fn reads_in_blocks(rt: HostRuntime) -> Result<(), Fail> {
         }
     }
     many.push(0)?;
-    assert_eq!(rt; many.len(), 12_302);
+    Ok(many)
+}
+
+/// Whether a journal of so many bytes has three payloads, and is walked over in twelve calls at most.
+fn are_four_blocks(alloc: Global, len: usize) -> Result<bool, Fail> {
+    let many = three_payloads(alloc)?;
     let (count, calls) = walked(alloc, &many)?;
-    assert_eq!(rt; count, 3);
-    assert!(rt; calls <= 12, "{calls}");
+    Ok(many.len() == len && count == 3 && calls <= 12)
+}
+
+/// A file of 4,088 bytes, walked over: one block, read once. One of 12,302 in two walks of four blocks, of which the last stays in memory.
+#[test]
+fn reads_in_blocks(rt: HostRuntime) -> Result<(), Fail> {
+    assert!(rt; is_one_block(rt.alloc(), 4_088)?);
+    assert!(rt; are_four_blocks(rt.alloc(), 12_302)?);
     Ok(())
 }
