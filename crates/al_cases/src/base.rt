@@ -45,6 +45,13 @@ fn reads_type(alloc: Global, bytes: &[u8], good: bool) -> bool {
     }
 }
 
+/// Whether a name of 128 bytes is that of a type, and one of 129 isn't.
+fn reads_long_types(alloc: Global) -> bool {
+    let mut long = [b'x'; 129];
+    long[1] = b':';
+    reads_type(alloc, &long[..128], true) && reads_type(alloc, &long, false)
+}
+
 #[test]
 fn reads_texts_and_type_ids(rt: HostRuntime) {
     let alloc = rt.alloc();
@@ -54,10 +61,7 @@ fn reads_texts_and_type_ids(rt: HostRuntime) {
     for (bytes, good) in &TYPES {
         assert!(rt; reads_type(alloc, bytes, *good));
     }
-    let mut long = [b'x'; 129];
-    long[1] = b':';
-    assert!(rt; reads_type(alloc, &long[..128], true));
-    assert!(rt; reads_type(alloc, &long, false));
+    assert!(rt; reads_long_types(alloc));
 }
 
 /// Milliseconds, and the text of their stamp.
@@ -107,12 +111,11 @@ fn prints_and_reads_stamps(rt: HostRuntime) {
 
 #[test]
 fn names_values(rt: HostRuntime) {
-    assert_eq!(rt; Severity::Indeterminate.name(), "indeterminate");
-    assert_eq!(rt; OperatorState::UnShelved.name(), "un-shelved");
-    let event_type = EventType::QualityOfServiceAlarm.name();
-    assert_eq!(rt; event_type, "quality-of-service-alarm");
-    assert_eq!(rt; Status::read(b"cleared"), Some(Status::Cleared));
-    assert_eq!(rt; Severity::read(b"Major"), None);
+    assert!(rt; Severity::Indeterminate.name() == "indeterminate");
+    assert!(rt; OperatorState::UnShelved.name() == "un-shelved");
+    assert!(rt; EventType::QualityOfServiceAlarm.name() == "quality-of-service-alarm");
+    assert!(rt; Status::read(b"cleared") == Some(Status::Cleared));
+    assert!(rt; Severity::read(b"Major").is_none());
 }
 
 /// Whether a copy equals what it copies, and another value doesn't.
@@ -128,10 +131,17 @@ fn stamps(alloc: Global, count: usize) -> Result<List<Stamp>, AllocError> {
     Ok(List::of(vec![in alloc; Stamp::LAST; count]?))
 }
 
+/// Whether a copy of a list equals it, and another list doesn't.
+fn copies_lists(alloc: Global) -> Result<bool, AllocError> {
+    let two = stamps(alloc, 2)?;
+    let one = stamps(alloc, 1)?;
+    Ok(copies(alloc, &two, &one))
+}
+
 #[test]
 fn copies_equal(rt: HostRuntime) -> Result<(), Fail> {
     let alloc = rt.alloc();
-    assert!(rt; copies(alloc, &stamps(alloc, 2)?, &stamps(alloc, 1)?));
+    assert!(rt; copies_lists(alloc)?);
     assert!(rt; copies(alloc, &Stamp::EPOCH, &Stamp::LAST));
     assert!(rt; copies(alloc, &Severity::Minor, &Severity::Major));
     assert!(rt; copies(alloc, &Status::Active(Severity::Minor), &Status::Cleared));

@@ -4,6 +4,7 @@ use al_base::{
     Clock, MemClock, MemSink, MemSource, ReadFault, Reading, Sink, Source, Stamp, SystemClock,
     WriteFault, Writing,
 };
+use std::alloc::{AllocError, Global};
 use std::cell::Cell;
 use std::io::{Read, Write};
 use std::test::Fail;
@@ -98,34 +99,58 @@ impl rt::Clock for Readings<'_> {
     }
 }
 
+/// What reads of four bytes answer, one after the other: of six bytes in memory, of which the first give one and three, and the third fails; and of
+/// a reader that fails once.
+const IN_MEMORY: [Result<usize, ReadFault>; 5] = [Ok(1), Ok(3), Err(ReadFault), Ok(2), Ok(0)];
+
+const READ: [Result<usize, ReadFault>; 4] = [Ok(1), Err(ReadFault), Ok(2), Ok(0)];
+
+fn memory_gives(alloc: Global) -> Result<bool, AllocError> {
+    let mut source = MemSource::new(alloc, b"abcdef", &[1, 3], &[3])?;
+    Ok(reads(&mut source, IN_MEMORY.as_slice(), b"abcdef"))
+}
+
+fn reader_gives() -> bool {
+    let mut reading = Reading::new(Faulty { reads: 0 });
+    reads(&mut reading, READ.as_slice(), b"abc")
+}
+
 #[test]
 fn sources_give_their_bytes(rt: HostRuntime) -> Result<(), Fail> {
-    let mut source = MemSource::new(rt.alloc(), b"abcdef", &[1, 3], &[3])?;
-    let answers = [Ok(1), Ok(3), Err(ReadFault), Ok(2), Ok(0)];
-    assert!(rt; reads(&mut source, answers.as_slice(), b"abcdef"));
-    let mut reading = Reading::new(Faulty { reads: 0 });
-    let answers = [Ok(1), Err(ReadFault), Ok(2), Ok(0)];
-    assert!(rt; reads(&mut reading, answers.as_slice(), b"abc"));
+    assert!(rt; memory_gives(rt.alloc())?);
+    assert!(rt; reader_gives());
     Ok(())
+}
+
+/// What writes of `abc` answer, one after the other: to five bytes of memory, of which the second fails; and to a writer that takes less.
+const HELD: [Result<usize, WriteFault>; 4] = [Ok(3), Err(WriteFault), Ok(2), Err(WriteFault)];
+
+const WRITTEN: [Result<usize, WriteFault>; 4] = [Ok(1), Err(WriteFault), Err(WriteFault), Ok(3)];
+
+fn memory_takes(alloc: Global) -> Result<bool, AllocError> {
+    let mut sink = MemSink::new(alloc, 5, &[2])?;
+    Ok(writes(&mut sink, HELD.as_slice()) && sink.bytes() == b"abcab".as_slice())
+}
+
+fn writer_takes() -> bool {
+    let mut writing = Writing::new(Reluctant { writes: 0 });
+    writes(&mut writing, WRITTEN.as_slice())
 }
 
 #[test]
 fn sinks_take_what_they_can(rt: HostRuntime) -> Result<(), Fail> {
-    let mut sink = MemSink::new(rt.alloc(), 5, &[2])?;
-    let answers = [Ok(3), Err(WriteFault), Ok(2), Err(WriteFault)];
-    assert!(rt; writes(&mut sink, answers.as_slice()));
-    assert_eq!(rt; sink.bytes(), b"abcab".as_slice());
-    let mut writing = Writing::new(Reluctant { writes: 0 });
-    let answers = [Ok(1), Err(WriteFault), Err(WriteFault), Ok(3)];
-    assert!(rt; writes(&mut writing, answers.as_slice()));
+    assert!(rt; memory_takes(rt.alloc())?);
+    assert!(rt; writer_takes());
     Ok(())
 }
 
-#[test]
-fn clocks_tell_milliseconds(rt: HostRuntime) -> Result<(), Fail> {
-    let mut clock = MemClock::new(rt.alloc(), &[Stamp::LAST, Stamp::EPOCH])?;
-    assert!(rt; tells(&mut clock, &[253_402_300_799_999, 0, 0]));
-    // from seconds and billionths of them; where there is no reading the last one is repeated
+fn memory_tells(alloc: Global) -> Result<bool, AllocError> {
+    let mut clock = MemClock::new(alloc, &[Stamp::LAST, Stamp::EPOCH])?;
+    Ok(tells(&mut clock, &[253_402_300_799_999, 0, 0]))
+}
+
+/// From seconds and billionths of them; where there is no reading the last one is repeated.
+fn system_tells() -> bool {
     let times = [
         Duration::new(1_714_557_600, 123_999_999),
         Duration::new(0, 1_000_000),
@@ -137,6 +162,12 @@ fn clocks_tell_milliseconds(rt: HostRuntime) -> Result<(), Fail> {
         next: Cell::new(0),
     };
     let told = [1_714_557_600_123, 1, 253_402_300_799_999, 2000, 2000];
-    assert!(rt; tells(&mut SystemClock::new(system), told.as_slice()));
+    tells(&mut SystemClock::new(system), told.as_slice())
+}
+
+#[test]
+fn clocks_tell_milliseconds(rt: HostRuntime) -> Result<(), Fail> {
+    assert!(rt; memory_tells(rt.alloc())?);
+    assert!(rt; system_tells());
     Ok(())
 }

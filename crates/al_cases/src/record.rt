@@ -57,11 +57,15 @@ fn shows(history: &History<u32>, items: &[u32]) -> bool {
         && history.at(usize::MAX).is_none()
 }
 
+/// Whether the step answers as it should, and these are the items then.
+fn goes(history: &mut History<u32>, step: Step, items: &[u32]) -> bool {
+    carry(history, step) && shows(history, items)
+}
+
 #[test]
 fn keeps_the_newest(rt: HostRuntime) {
     let mut history = History::new(rt.alloc(), Some(2));
     for (step, items) in &ROWS {
-        assert!(rt; carry(&mut history, *step), "to {items:?}");
-        assert!(rt; shows(&history, items), "at {items:?}");
+        assert!(rt; goes(&mut history, *step, items), "{items:?}");
     }
 }

@@ -84,18 +84,38 @@ const BUILT: [(&[(&str, &str)], usize, usize, Option<InventoryFault>); 9] = [
     (&[("ex:a", ROOT)], 2001, 0, Some(InventoryFault::TooMany)),
 ];
 
+/// The fault of the inventory of these names and bases, so many times, and of so many equal rows, if it has one.
+fn fault_of(
+    alloc: Global,
+    pairs: &[(&str, &str)],
+    times: usize,
+    count: usize,
+) -> Result<Option<InventoryFault>, Fail> {
+    Ok(build(alloc, pairs, times, count)?.err())
+}
+
 #[test]
 fn refuses_what_is_no_inventory(rt: HostRuntime) -> Result<(), Fail> {
     for (pairs, times, count, fault) in &BUILT {
-        assert_eq!(rt; build(rt.alloc(), pairs, *times, *count)?.err(), *fault);
+        assert!(rt; fault_of(rt.alloc(), pairs, *times, *count)? == *fault);
     }
     Ok(())
 }
 
-/// Whether the one type derives from the other, in a copy of the inventory.
-fn derives(alloc: Global, inventory: &Inventory, name: &str, base: &str) -> Result<bool, Fail> {
+/// An inventory that declares c on b, or an empty one.
+fn inventory(alloc: Global, declares: bool) -> Result<Inventory, Fail> {
+    if declares {
+        Ok(build(alloc, &[("ex:b", ROOT), ("ex:c", "ex:b")], 1, 0)??)
+    } else {
+        Ok(Inventory::empty(alloc))
+    }
+}
+
+/// Whether the one type derives from the other, in a copy of the inventory that declares c on b or of the empty one.
+fn derives(alloc: Global, declares: bool, name: &str, base: &str) -> Result<bool, Fail> {
     let pair = identity(alloc, name, base)?;
-    Ok(inventory.copy(alloc)?.derives(&pair.name, &pair.base))
+    let copy = inventory(alloc, declares)?.copy(alloc)?;
+    Ok(copy.derives(&pair.name, &pair.base))
 }
 
 /// Two types, and whether the one derives from the other in an inventory that declares c on b; and in an empty one.
@@ -111,29 +131,32 @@ const BASES: [(&str, &str, bool, bool); 7] = [
 
 #[test]
 fn follows_bases(rt: HostRuntime) -> Result<(), Fail> {
-    let alloc = rt.alloc();
-    let two = build(alloc, &[("ex:b", ROOT), ("ex:c", "ex:b")], 1, 0)??;
-    let none = Inventory::empty(alloc);
     for (name, base, in_two, in_none) in &BASES {
-        assert_eq!(rt; derives(alloc, &two, name, base)?, *in_two);
-        assert_eq!(rt; derives(alloc, &none, name, base)?, *in_none);
+        assert!(rt; derives(rt.alloc(), true, name, base)? == *in_two);
+        assert!(rt; derives(rt.alloc(), false, name, base)? == *in_none);
     }
     Ok(())
 }
 
+/// Types, qualifiers, and whether an inventory of one row has a row of them.
+const FOUND: [(&str, &str, bool); 3] = [
+    ("ex:a", "q", true),
+    ("ex:a", "r", false),
+    ("ex:b", "q", false),
+];
+
 /// Whether the row of this type and qualifier is found, and is like those that are built.
-fn finds(alloc: Global, inventory: &Inventory, name: &str, qualifier: &str) -> Result<bool, Fail> {
+fn finds(alloc: Global, name: &str, qualifier: &str) -> Result<bool, Fail> {
+    let inventory = build(alloc, &[], 0, 1)??;
     let wanted = row(alloc, name, qualifier, 0)?;
     Ok(inventory.row(&wanted.type_id, &wanted.qualifier) == Some(&wanted))
 }
 
 #[test]
 fn finds_rows(rt: HostRuntime) -> Result<(), Fail> {
-    let alloc = rt.alloc();
-    let inventory = build(alloc, &[], 0, 1)??;
-    assert!(rt; finds(alloc, &inventory, "ex:a", "q")?);
-    assert!(rt; !finds(alloc, &inventory, "ex:a", "r")?);
-    assert!(rt; !finds(alloc, &inventory, "ex:b", "q")?);
+    for (name, qualifier, found) in &FOUND {
+        assert!(rt; finds(rt.alloc(), name, qualifier)? == *found);
+    }
     Ok(())
 }
 
@@ -148,11 +171,14 @@ const SETS: [(u8, Severity, bool); 6] = [
     (0b100000, Severity::Critical, false),
 ];
 
+fn allows(alloc: Global, severities: u8, severity: Severity) -> Result<bool, Fail> {
+    Ok(row(alloc, "ex:a", "q", severities)?.allows(severity))
+}
+
 #[test]
 fn allows_severities(rt: HostRuntime) -> Result<(), Fail> {
     for (severities, severity, allowed) in &SETS {
-        let row = row(rt.alloc(), "ex:a", "q", *severities)?;
-        assert_eq!(rt; row.allows(*severity), *allowed);
+        assert!(rt; allows(rt.alloc(), *severities, *severity)? == *allowed);
     }
     Ok(())
 }
