@@ -3,7 +3,6 @@
 
 mod answer;
 pub mod checking;
-pub mod closed;
 pub mod command;
 mod draw;
 pub mod drill;
@@ -13,6 +12,5 @@ pub mod program;
 pub mod session;
 pub mod status;
 
-pub use closed::ClosedDisk;
 pub use command::Command;
 pub use program::run;

@@ -1,8 +1,8 @@
 //! The alarm management server.
 #![tactic(auto)]
 
-mod journal_length;
-mod journal_lock;
+mod journal_file;
+mod standard;
 mod tcp_door;
 mod words;
 
@@ -10,12 +10,13 @@ ghost use Rattle.std.specs.Prelude.{◌≡◌, IfOk, vec_len};
 ghost use Rattle.al_server.specs.ServeWords.{IsServe};
 
 use al_base::{Reading, SystemClock, Text, Writing};
-use al_commands::{ClosedDisk, Command, run, status};
-use al_disk::{Disk, FileDisk};
+use al_commands::{Command, run, status};
+use al_disk::FileDisk;
 use al_server::{ServeWords, run_serve};
-use journal_length::lengthen;
-use journal_lock::JournalLock;
+use journal_file::{Access, disk_at};
+use standard::StandardNumbers;
 use std::alloc::{AllocError, Global};
+use std::fs::File;
 use std::net::{SocketAddr, SocketAddrV4};
 use std::process::ExitCode;
 use std::rt::Clock;
@@ -23,12 +24,13 @@ use tcp_door::doors_at;
 use words::{journal_in, words_of};
 
 fn main(rt: HostRuntime) -> ExitCode {
+    let _numbers = StandardNumbers::hold(&rt);
     let Ok(words) = words_of(&rt) else {
         return ExitCode::from(status::OUT_OF_MEMORY);
     };
     let words = words.as_slice();
     let Some(asked) = ServeWords::of(words) else {
-        return run_on_disk(rt, words);
+        return ExitCode::from(run_on_disk(rt, words));
     };
     // Each worker has a door and a clock of its own.
     let workers = workers_of(words, asked);
@@ -39,61 +41,38 @@ fn main(rt: HostRuntime) -> ExitCode {
     ) else {
         return ExitCode::from(status::OUT_OF_MEMORY);
     };
-    let journal = journal_in(words);
+    let disk = disk_at(&rt, journal_in(words), Access::Add);
     let mut sink = Writing::new(rt.stdout());
-    let status = match JournalLock::of(&rt, journal) {
-        Some(_lock) => {
-            let disk = FileDisk::open(&rt, journal);
-            run_serve(&rt, rt.alloc(), words, disk, doors, clocks, &mut sink).0
-        }
-        None => {
-            let disk = ClosedDisk::new();
-            run_serve(&rt, rt.alloc(), words, disk, doors, clocks, &mut sink).0
-        }
-    };
+    let (status, ..) = run_serve(&rt, rt.alloc(), words, disk, doors, clocks, &mut sink);
     ExitCode::from(status)
 }
 
-/// Does what the words ask for on the file that they name: a new one for `init`, one that is there for the others. A session has it alone.
-fn run_on_disk(rt: HostRuntime, words: &[Text]) -> ExitCode {
-    let status = match Command::of(words) {
-        Some(Command::Init { capacity }) => init(rt, words, capacity),
-        Some(Command::Session) => match JournalLock::of(&rt, journal_in(words)) {
-            Some(_lock) => {
-                let disk = FileDisk::open(&rt, journal_in(words));
-                run_on(rt, words, disk)
-            }
-            None => run_on(rt, words, ClosedDisk::new()),
-        },
-        Some(Command::Check) => {
-            let disk = FileDisk::open(&rt, journal_in(words));
-            run_on(rt, words, disk)
-        }
-        _ => run_on(rt, words, ClosedDisk::new()),
-    };
-    ExitCode::from(status)
-}
-
-/// Makes a journal, and lengthens its file once it is made.
-fn init(rt: HostRuntime, words: &[Text], capacity: u64) -> u8 {
+/// Does what the words ask for on the file that they name.
+fn run_on_disk(rt: HostRuntime, words: &[Text]) -> u8 {
     let journal = journal_in(words);
-    let disk = FileDisk::create(&rt, journal);
-    let status = run_on(rt, words, disk);
-    if status == status::DONE {
-        // A journal whose file stays short is as good.
-        let _ = lengthen(&rt, journal, capacity);
+    let disk = match Command::of(words) {
+        Some(Command::Init { capacity }) => disk_at(&rt, journal, Access::Make(capacity)),
+        Some(Command::Session) => disk_at(&rt, journal, Access::Add),
+        Some(Command::Check) => disk_at(&rt, journal, Access::Look),
+        _ => FileDisk::closed(),
+    };
+    let (status, mut disk) = run_on(rt, words, disk);
+    if let Some(Command::Init { capacity }) = Command::of(words)
+        && status == status::DONE
+    {
+        // A commit in a file that has the length of its journal changes no length. A journal whose file stays short is as good.
+        let _ = disk.lengthen(capacity);
     }
     status
 }
 
-/// Does what the words ask for on this disk, between standard input and standard output, and gives the status.
-fn run_on<D: Disk>(rt: HostRuntime, words: &[Text], disk: D) -> u8 {
+/// Does what the words ask for on this disk, between standard input and standard output, and gives the status and the disk.
+fn run_on(rt: HostRuntime, words: &[Text], disk: FileDisk<File>) -> (u8, FileDisk<File>) {
     let mut source = Reading::new(rt.stdin());
     let mut sink = Writing::new(rt.stdout());
     let alloc = rt.alloc();
     let mut clock = SystemClock::new(rt);
-    let (status, _) = run(alloc, words, disk, &mut source, &mut sink, &mut clock);
-    status
+    run(alloc, words, disk, &mut source, &mut sink, &mut clock)
 }
 
 /// How many workers the row asks for: no other row has the same words.
