@@ -37,15 +37,10 @@ fn number(text: &str) -> Result<u64, Fault> {
     }
 }
 
-/// Two numbers, of which the second isn't lower.
+/// Two numbers.
 pub fn numbers(text: &str) -> Result<(u64, u64), Fault> {
-    let (low, high) = parted(text);
-    let low = number(low)?;
-    let high = number(high)?;
-    if high < low {
-        return Err(Fault::Form);
-    }
-    Ok((low, high))
+    let (first, last) = parted(text);
+    Ok((number(first)?, number(last)?))
 }
 
 /// Does what a line says of constants or of a row.
@@ -221,9 +216,9 @@ fn take_setting(row: &mut Row, line: Line) -> Result<(), Fault> {
         "like" => row.has_output = Output::Like,
         "same" => row.has_image = Image::Same,
         "pieces" => {
-            let (low, high) = numbers(line.rest)?;
-            row.piece = low as usize;
-            row.runs = (high - low).saturating_add(1) as usize;
+            let (first, last) = numbers(line.rest)?;
+            row.piece = first as usize;
+            row.runs = last.saturating_sub(first).saturating_add(1) as usize;
         }
         "status" => row.status = status(line.rest)?,
         _ => take_number(row, line.verb, number(line.rest)?)?,

@@ -77,13 +77,18 @@ impl Runner {
     /// Does what the line says, for each number where it is behind such a line.
     fn take(&mut self, line: Line) -> Result<(), Fault> {
         match self.each.take() {
-            Some((low, high)) => self.take_each(line, low, high),
+            Some((first, last)) => self.take_each(line, first, last),
             None => self.take_one(line),
         }
     }
 
-    fn take_each(&mut self, line: Line, low: u64, high: u64) -> Result<(), Fault> {
-        for number in low..=high {
+    fn take_each(&mut self, line: Line, first: u64, last: u64) -> Result<(), Fault> {
+        let up = last.saturating_sub(first);
+        let down = first.saturating_sub(last);
+        for step in 0..=up.max(down) {
+            let number = first
+                .saturating_add(step.min(up))
+                .saturating_sub(step.min(down));
             let rest = numbered(self.alloc, line.rest, number)?;
             let verb = line.verb;
             let rest = rest.as_str();
