@@ -79,13 +79,21 @@ fn mark(alloc: Global, width: u8, ch: char, number: u64, to: &mut String) -> Res
         'x' => add_hex(width, number, to)?,
         'b' => add_binary(width, number, to)?,
         '[' => return Ok(Place::Even),
-        '1' => return Ok(Place::Mark(width.saturating_mul(10).saturating_add(1))),
-        '5' => return Ok(Place::Mark(width.saturating_mul(10).saturating_add(5))),
-        '6' => return Ok(Place::Mark(width.saturating_mul(10).saturating_add(6))),
-        '8' => return Ok(Place::Mark(width.saturating_mul(10).saturating_add(8))),
-        _ => return Err(Fault::Form),
+        _ => return Ok(Place::Mark(wider(width, ch)?)),
     }
     Ok(Place::Plain)
+}
+
+/// The width with one more digit.
+fn wider(width: u8, ch: char) -> Result<u8, Fault> {
+    match ch.to_digit(10) {
+        Some(digit) => Ok(width.saturating_mul(10).saturating_add(low_digit(digit))),
+        None => Err(Fault::Form),
+    }
+}
+
+fn low_digit(digit: u32) -> u8 {
+    u8::try_from(digit).unwrap_or(u8::MAX)
 }
 
 /// Adds the number, with zeros before it up to the width.
