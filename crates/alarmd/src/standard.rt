@@ -7,6 +7,7 @@ const NULL: &str = "/dev/null";
 
 /// The numbers of standard input and of standard errors, the last of the three.
 const INPUT: i32 = 0;
+
 const LAST: i32 = 2;
 
 /// Holds the numbers of standard descriptors that were closed when the program began, so that no file gets them. What is opened there fails
