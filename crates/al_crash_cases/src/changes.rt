@@ -9,7 +9,7 @@ use std::alloc::{AllocError, Global};
 use std::test::Fail;
 
 /// What two reports answer, between which the journal may be in doubt, and what stands after them.
-#[derive(Clone, Copy, Debug, PartialEq, Eq)]
+#[derive(Clone, Copy, PartialEq, Eq)]
 struct Told {
     first: Result<Reply, Refusal>,
     doubt: bool,
@@ -37,19 +37,26 @@ fn tell_twice(alloc: Global, fails: u64) -> Result<Told, OfficeFault> {
     })
 }
 
+/// A call of a commit that fails, and whether the journal is in doubt then.
+const FAULTS: [(u64, bool); 4] = [(4, false), (5, false), (6, true), (7, true)];
+
+/// Whether a report whose call fails is refused, with a doubt or without one, and the next one stands behind the inventory.
+fn refuses_one(alloc: Global, fails: u64, doubt: bool) -> Result<bool, Fail> {
+    let wanted = Told {
+        first: Err(Refusal::Disk),
+        doubt,
+        second: Ok(Reply::Done),
+        used: 130,
+        shown: 2,
+    };
+    Ok(tell_twice(alloc, fails)? == wanted)
+}
+
 /// A fault at each of the four calls of a commit, and the next report: the refused one is nowhere.
 #[test]
 fn fails_at_each_call_of_a_commit(rt: HostRuntime) -> Result<(), Fail> {
-    let cases: [(u64, bool); 4] = [(4, false), (5, false), (6, true), (7, true)];
-    for (fails, doubt) in &cases {
-        let expected = Told {
-            first: Err(Refusal::Disk),
-            doubt: *doubt,
-            second: Ok(Reply::Done),
-            used: 130,
-            shown: 2,
-        };
-        assert_eq!(rt; tell_twice(rt.alloc(), *fails)?, expected, "{fails}");
+    for (fails, doubt) in &FAULTS {
+        assert!(rt; refuses_one(rt.alloc(), *fails, *doubt)?, "{fails}");
     }
     Ok(())
 }
@@ -69,31 +76,37 @@ fn tell_thrice(alloc: Global, calls: usize) -> Result<(usize, MemDisk), AllocErr
     Ok((acknowledged, office.into_disk()))
 }
 
+/// For each number of calls from 0: how many entries are acknowledged, with the inventory, and how many are shown.
+const STOPS: [(usize, usize); 16] = [
+    (1, 1),
+    (1, 1),
+    (1, 1),
+    (1, 1),
+    (1, 1),
+    (1, 1),
+    (1, 2),
+    (2, 2),
+    (2, 2),
+    (2, 2),
+    (2, 3),
+    (3, 3),
+    (3, 3),
+    (3, 3),
+    (3, 4),
+    (4, 4),
+];
+
+/// Whether a disk that takes so many calls acknowledges and shows so many entries.
+fn stops(alloc: Global, calls: usize, acknowledged: usize, shows: usize) -> Result<bool, Fail> {
+    let (entries, disk) = tell_thrice(alloc, calls)?;
+    Ok(entries == acknowledged && shown(alloc, disk.image()) == Ok(shows))
+}
+
 /// A stop at each call: the image shows what was acknowledged, or this and the one in doubt, whose gate was opened by the last call.
 #[test]
 fn stops_at_each_call(rt: HostRuntime) -> Result<(), Fail> {
-    let cases: [(usize, usize); 16] = [
-        (1, 1),
-        (1, 1),
-        (1, 1),
-        (1, 1),
-        (1, 1),
-        (1, 1),
-        (1, 2),
-        (2, 2),
-        (2, 2),
-        (2, 2),
-        (2, 3),
-        (3, 3),
-        (3, 3),
-        (3, 3),
-        (3, 4),
-        (4, 4),
-    ];
-    for (calls, (acknowledged, shows)) in cases.iter().enumerate() {
-        let (entries, disk) = tell_thrice(rt.alloc(), calls)?;
-        assert_eq!(rt; entries, *acknowledged, "{calls}");
-        assert_eq!(rt; shown(rt.alloc(), disk.image()), Ok(*shows), "{calls}");
+    for (calls, (acknowledged, shows)) in STOPS.iter().enumerate() {
+        assert!(rt; stops(rt.alloc(), calls, *acknowledged, *shows)?, "{calls}");
     }
     Ok(())
 }
@@ -110,15 +123,20 @@ fn tell_all(alloc: Global, more: u8) -> Result<(usize, u64, Result<Reply, Refusa
     Ok((office.len(), office.journal().used(), last))
 }
 
+/// How many bytes more, how many entries are there in the end, and how many bytes are used.
+const ROOMS: [(u8, usize, u64); 3] = [(0, 109, 4_088), (28, 109, 4_088), (29, 110, 4_125)];
+
+/// Whether the last report is refused by the full journal, which has so many entries in so many bytes.
+fn is_full(alloc: Global, more: u8, entries: usize, used: u64) -> Result<bool, Fail> {
+    let (len, last_byte, last) = tell_all(alloc, more)?;
+    Ok(len == entries && last_byte == used && last == Err(Refusal::JournalFull))
+}
+
 /// Each report has a record of 37 bytes. The first 92 bytes are those of the installed inventory.
 #[test]
 fn is_full_at_its_last_byte(rt: HostRuntime) -> Result<(), Fail> {
-    let cases: [(u8, usize, u64); 3] = [(0, 109, 4_088), (28, 109, 4_088), (29, 110, 4_125)];
-    for (more, entries, used) in &cases {
-        let (len, last_byte, last) = tell_all(rt.alloc(), *more)?;
-        assert_eq!(rt; len, *entries, "{more}");
-        assert_eq!(rt; last_byte, *used, "{more}");
-        assert_eq!(rt; last, Err(Refusal::JournalFull), "{more}");
+    for (more, entries, used) in &ROOMS {
+        assert!(rt; is_full(rt.alloc(), *more, *entries, *used)?, "{more}");
     }
     Ok(())
 }
