@@ -1,0 +1,41 @@
+// Questions to the user, and what is told behind an action.
+
+import { byId, make } from "./dom.js";
+
+/**
+ * Asks in a dialog. The answer is what stands in the field, true where there is none, and null where the user went back.
+ */
+export function ask({ title, lines, field, action }) {
+  const dialog = byId("dialog");
+  return new Promise((resolve) => {
+    let answer = null;
+    const input = field && make("input", { id: "dialog-field", value: field.value ?? "", maxlength: field.most, required: true, autocomplete: "off" });
+    const submit = (event) => {
+      event.preventDefault();
+      answer = input ? input.value : true;
+      dialog.close();
+    };
+    const form = make("form", { onsubmit: submit },
+      make("h2", { id: "dialog-title" }, title),
+      ...lines.map((line) => make("p", {}, line)),
+      input ? make("label", {}, field.label, input) : null,
+      make("div", { class: "line" }, make("button", { class: "main" }, action), make("button", { type: "button", onclick: () => dialog.close() }, "Back")));
+    dialog.replaceChildren(form);
+    dialog.addEventListener("close", () => resolve(answer), { once: true });
+    dialog.showModal();
+    input?.select();
+  });
+}
+
+let timer;
+
+/** Tells what an action did, for a while, or why it was refused, until the user has seen it. */
+export function tell(text, isRefusal = false) {
+  const notice = byId("notice");
+  clearTimeout(timer);
+  const close = () => { notice.hidden = true; };
+  notice.hidden = false;
+  notice.classList.toggle("bad", isRefusal);
+  notice.replaceChildren(make("span", {}, text), make("button", { type: "button", class: "quiet", "aria-label": "close this notice", onclick: close }, "×"));
+  if (!isRefusal) timer = setTimeout(close, 12000);
+}

@@ -1,0 +1,131 @@
+// A table of which only the rows in sight are elements, so that ten thousand rows are as quick as ten. One row is chosen at a time, by mouse or keys.
+
+import { make, setText } from "./dom.js";
+
+const HEIGHT = 30;
+const BEYOND = 8;
+
+/**
+ * A table of columns `{ title, name, fill(cell, item), fresh }`, where `fresh` says that a cell is filled anew each second; `keyOf` tells items
+ * apart, `chosen` hears of the item that was chosen and whether it was asked to be opened, `looks` gives the class of an item's row.
+ */
+export class Table {
+  constructor(place, { label, columns, keyOf, chosen, looks }) {
+    Object.assign(this, { columns, keyOf, chosen, looks, id: place.id });
+    this.items = [];
+    this.key = null;
+    this.rows = new Map();
+    this.space = make("div", { class: "space", role: "rowgroup" });
+    this.body = make("div", { class: "body", role: "grid", "aria-label": label, "aria-colcount": columns.length, tabindex: 0 }, this.heading(), this.space);
+    this.empty = make("p", { class: "empty", hidden: true });
+    place.classList.add("table");
+    place.append(this.body, this.empty);
+    this.body.addEventListener("scroll", () => this.draw(), { passive: true });
+    this.body.addEventListener("keydown", (event) => this.press(event));
+    this.space.addEventListener("click", (event) => this.click(event));
+    new ResizeObserver(() => this.draw()).observe(this.body);
+  }
+
+  heading() {
+    const titles = this.columns.map(({ title, name }) => make("div", { role: "columnheader", class: name }, title));
+    return make("div", { role: "rowgroup", class: "heading" }, make("div", { role: "row", class: "row", "aria-rowindex": 1 }, ...titles));
+  }
+
+  /** Shows these items, in this order. */
+  show(items, nothing) {
+    this.items = items;
+    this.body.setAttribute("aria-rowcount", items.length + 1);
+    this.space.style.height = `${items.length * HEIGHT}px`;
+    this.empty.hidden = items.length > 0;
+    setText(this.empty, nothing);
+    this.draw();
+  }
+
+  /** The places of the rows in sight, and some beyond. */
+  sight() {
+    const first = Math.floor(this.body.scrollTop / HEIGHT);
+    const count = Math.ceil(this.body.clientHeight / HEIGHT);
+    return [Math.max(0, first - BEYOND), Math.min(this.items.length, first + count + BEYOND)];
+  }
+
+  draw() {
+    const [first, end] = this.sight();
+    for (const [at, row] of this.rows) {
+      if (at < first || at >= end) {
+        row.remove();
+        this.rows.delete(at);
+      }
+    }
+    for (let at = first; at < end; at += 1) this.place(at);
+    const chosen = this.items.findIndex((item) => this.keyOf(item) === this.key);
+    if (this.rows.has(chosen)) this.body.setAttribute("aria-activedescendant", `${this.id}-${chosen}`);
+    else this.body.removeAttribute("aria-activedescendant");
+  }
+
+  place(at) {
+    let row = this.rows.get(at);
+    if (!row) {
+      row = this.blank(at);
+      this.rows.set(at, row);
+      this.space.append(row);
+    }
+    const item = this.items[at];
+    const isChosen = this.keyOf(item) === this.key;
+    row.className = `row ${this.looks(item)}${isChosen ? " chosen" : ""}`;
+    row.setAttribute("aria-selected", isChosen);
+    if (row.item === item) return;
+    row.item = item;
+    this.columns.forEach((column, number) => column.fill(row.children[number], item));
+  }
+
+  blank(at) {
+    const cells = this.columns.map(({ name }) => make("div", { role: "gridcell", class: name }));
+    const row = make("div", { role: "row", class: "row", id: `${this.id}-${at}`, "aria-rowindex": at + 2 }, ...cells);
+    row.style.transform = `translateY(${at * HEIGHT}px)`;
+    return row;
+  }
+
+  /** Fills anew what changes as time goes on. */
+  tick() {
+    for (const row of this.rows.values()) {
+      this.columns.forEach(({ fresh, fill }, number) => fresh && fill(row.children[number], row.item));
+    }
+  }
+
+  /** Chooses the item of a key, or none; nobody is told. */
+  choose(key) {
+    this.key = key;
+    this.draw();
+  }
+
+  /** Scrolls so that the item at this place is in sight. */
+  reveal(at) {
+    const room = this.body.clientHeight - HEIGHT;
+    const top = this.body.scrollTop;
+    if (at * HEIGHT < top) this.body.scrollTop = at * HEIGHT;
+    else if ((at + 1) * HEIGHT > top + room) this.body.scrollTop = (at + 1) * HEIGHT - room;
+  }
+
+  go(at, open) {
+    if (this.items.length === 0) return;
+    const item = this.items[Math.min(Math.max(at, 0), this.items.length - 1)];
+    this.reveal(this.items.indexOf(item));
+    this.choose(this.keyOf(item));
+    this.chosen(item, open);
+  }
+
+  click(event) {
+    const row = event.target.closest(".row");
+    if (row) this.go(this.items.indexOf(row.item), true);
+  }
+
+  press(event) {
+    if (event.ctrlKey || event.metaKey || event.altKey) return;
+    const at = this.items.findIndex((item) => this.keyOf(item) === this.key);
+    const page = Math.max(1, Math.floor(this.body.clientHeight / HEIGHT) - 2);
+    const places = { ArrowDown: at + 1, ArrowUp: at < 0 ? 0 : at - 1, PageDown: at + page, PageUp: at - page, Home: 0, End: this.items.length - 1, Enter: at };
+    if (!(event.key in places)) return;
+    event.preventDefault();
+    this.go(places[event.key], event.key === "Enter");
+  }
+}
