@@ -31,7 +31,7 @@ const raisedIn = (column) => SEVERITIES.reduce((sum, severity) => sum + column[s
 
 function words(columns, hours) {
   const totals = KINDS.map((kind) => `${columns.reduce((sum, column) => sum + column[kind], 0)} ${kind}`);
-  return `Told in the last ${hours === 1 ? "hour" : `${hours} hours`}: ${totals.join(", ")}.`;
+  return `Notifications of the last ${hours === 1 ? "hour" : `${hours} hours`}: ${totals.join(", ")}.`;
 }
 
 /** The pieces of one column: the worst at the foot. */

@@ -56,9 +56,10 @@ export class Follower {
       this.reached = Date.now();
       this.looked(null);
     } catch (fault) {
-      if (!(fault instanceof restconf.Refusal)) throw fault;
+      const isRefusal = fault instanceof restconf.Refusal;
+      if (!isRefusal) console.error(fault);
       this.since ??= Date.now();
-      this.looked(fault);
+      this.looked(isRefusal ? fault : new restconf.Refusal(-1, `The answer isn't understood (${fault.message}).`));
     }
   }
 

@@ -1,7 +1,7 @@
 // The page: what follows the server, and what shows it.
 
 import * as restconf from "./restconf.js";
-import { OPERATOR_WORDS, SEVERITIES, isRelated, operatorWords, passes, severityWords, summaryOf, typeOf, worstAndNewest } from "./alarms.js";
+import { OPERATOR_WORDS, SEVERITIES, isRelated, keyOf, operatorWords, passes, severityWords, summaryOf, typeOf, worstAndNewest } from "./alarms.js";
 import { showChart } from "./chart.js";
 import { Detail } from "./detail.js";
 import { ask, tell } from "./dialogs.js";
@@ -15,6 +15,7 @@ import { clock, lasting, moment, now } from "./time.js";
 const filters = { severities: new Set(SEVERITIES), cleared: "all", operator: "all", text: "" };
 const opened = { key: null, isShelved: false };
 let types = null;
+let isBusy = false;
 
 // --- tables
 
@@ -42,11 +43,11 @@ const keyOfRow = (row) => row.key;
 
 const list = new Table(byId("list"), {
   label: "alarms, worst and newest first", columns: [...columns, operatorColumn], keyOf: keyOfRow, looks: looksOf,
-  chosen: (row, isOpened) => (isOpened || opened.key) && open(row.key, false),
+  chosen: (row, how) => (how || opened.key) && open(row.key, false, how),
 });
 const shelf = new Table(byId("shelf"), {
   label: "shelved alarms, worst and newest first", columns: [...columns, shelfColumn], keyOf: keyOfRow, looks: looksOf,
-  chosen: (row, isOpened) => (isOpened || opened.key) && open(row.key, true),
+  chosen: (row, how) => (how || opened.key) && open(row.key, true, how),
 });
 
 function whatOf(cell, note) {
@@ -66,8 +67,7 @@ const log = new Table(byId("log"), {
     { title: "Text", name: "words", fill: (cell, note) => text(cell, subjectOf(note)["alarm-text"] ?? subjectOf(note).text ?? "") },
     { title: "By", name: "operator", fill: (cell, note) => text(cell, subjectOf(note).operator ?? "") },
   ],
-  keyOf: (note) => note.number, looks: () => "", chosen: (note, isOpened) => isOpened && openKey(JSON.stringify(
-    ["resource", "alarm-type-id", "alarm-type-qualifier"].map((name) => subjectOf(note)[name]))),
+  keyOf: (note) => note.number, looks: () => "", chosen: (note, how) => how && openKey(keyOf(subjectOf(note)), how),
 });
 
 // --- what is shown
@@ -112,8 +112,12 @@ function showCounts() {
   setText(byId("count-list"), String(follower.rows.size));
   setText(byId("count-shelf"), String(follower.shelved.length));
   setText(byId("count-log"), String(follower.notes.length));
+  showTitle("");
+}
+
+function showTitle(old) {
   const { standing } = summaryOf(follower.rows.values()).get("critical");
-  document.title = standing ? `(${standing} critical) Alarms` : "Alarms";
+  document.title = old || standing ? `(${old}${standing} critical) Alarms` : "Alarms";
 }
 
 function showDetail() {
@@ -156,9 +160,10 @@ function showState(refusal) {
     return;
   }
   const shown = follower.reached ? `What is shown is from ${moment(follower.reached)}.` : "Nothing is shown yet.";
-  const what = refusal.isOutOfReach ? "The server can't be reached" : "The server refuses";
-  setText(stale, `${what} since ${moment(follower.since)}: ${refusal.message} ${shown}`);
-  setText(byId("state"), "Old");
+  const why = refusal.isOutOfReach ? "The server can't be reached" : `${refusal.message} So it is`;
+  setText(stale, `${why} since ${moment(follower.since)}. ${shown}`);
+  setText(byId("state"), "Old: see above");
+  showTitle("old, ");
 }
 
 const follower = new Follower({ changed: showAll, looked: showState });
@@ -178,6 +183,7 @@ function readFilters() {
   filters.cleared = byId("filters").elements.cleared.value;
   filters.operator = byId("filters").elements.operator.value;
   filters.text = byId("filter-text").value;
+  list.body.scrollTop = 0;
   showList();
 }
 
@@ -208,41 +214,45 @@ async function readTypes() {
   }
 }
 
-function open(key, isShelved) {
+/** Opens an alarm. By a key, or where the detail covers the page, it is gone to. */
+function open(key, isShelved, how) {
   Object.assign(opened, { key, isShelved });
   (isShelved ? shelf : list).choose(key);
   showDetail();
+  if (how === "key" || getComputedStyle(detail.pane).position === "fixed") detail.pane.focus();
   if (!types) readTypes();
 }
 
 /** Opens the alarm of a key, wherever it stands. */
-function openKey(key) {
+function openKey(key, how) {
   const isShelved = follower.shelved.some((row) => row.key === key);
   if (!isShelved && !follower.rows.has(key)) {
     tell("This alarm is neither on the list nor on the shelf any more.");
     return;
   }
-  openTab(isShelved ? "shelf" : "list");
-  open(key, isShelved);
+  open(key, isShelved, how);
 }
 
 function closeDetail() {
-  const table = opened.isShelved ? shelf : list;
-  const isWithin = byId("detail").contains(document.activeElement);
+  const isWithin = detail.pane.contains(document.activeElement);
   opened.key = null;
   detail.hide();
-  if (isWithin) table.body.focus();
+  if (isWithin) focusTable();
 }
 
 // --- actions
 
 /** Carries an action out, and tells what it did or why it was refused. */
 async function carryOut(action) {
+  if (isBusy) return;
+  isBusy = true;
   try {
     tell(await action());
   } catch (fault) {
     if (!(fault instanceof restconf.Refusal)) throw fault;
     tell(fault.message, true);
+  } finally {
+    isBusy = false;
   }
   follower.now();
 }
@@ -254,7 +264,8 @@ const act = {
 
   set: (row, state, words) => carryOut(async () => {
     await restconf.setOperatorState(row.alarm, state, words);
-    byId("action-text").value = "";
+    const input = byId("action-text");
+    if (input) input.value = "";
     return `${DONE[state]}: ${row.alarm.resource}`;
   }),
 
@@ -319,6 +330,11 @@ function openTab(name) {
   }
 }
 
+function focusTable() {
+  const table = [list, shelf, log].find(({ body }) => body.offsetParent !== null);
+  table.body.focus();
+}
+
 function pressTab(event) {
   const step = { ArrowRight: 1, ArrowLeft: -1 }[event.key];
   if (!step) return;
@@ -353,7 +369,7 @@ function prepare(state) {
     if (event.key !== "Enter") return;
     event.preventDefault();
     document.querySelector(`#detail [data-state=${state}]`).click();
-    list.body.focus();
+    focusTable();
   };
 }
 
@@ -361,7 +377,7 @@ function press(event) {
   if (event.ctrlKey || event.metaKey || event.altKey || byId("dialog").open) return;
   const isWriting = event.target.matches("input[type=search], input:not([type]), select");
   if (isWriting) {
-    if (event.key === "Escape") list.body.focus();
+    if (event.key === "Escape") focusTable();
     return;
   }
   if (pressOnAlarm(event.key)) event.preventDefault();

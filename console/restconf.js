@@ -64,13 +64,21 @@ async function sent(method, path, body, seconds) {
   }
 }
 
+function read(text) {
+  try {
+    return JSON.parse(text);
+  } catch {
+    throw new Refusal(-1, "The answer isn't JSON, so it isn't the server's.");
+  }
+}
+
 async function asked(method, path, body, seconds = 60) {
   const response = await sent(method, path, body, seconds);
   const text = await response.text().catch(() => {
     throw new Refusal(0, "The answer broke off.");
   });
   if (!response.ok) throw new Refusal(response.status, inWords(response.status, text));
-  return { place: Number(response.headers.get("Alarm-Place")), date: response.headers.get("Date"), body: text ? JSON.parse(text) : null };
+  return { place: Number(response.headers.get("Alarm-Place")), date: response.headers.get("Date"), body: text ? read(text) : null };
 }
 
 const keyed = (alarm) => [alarm.resource, alarm["alarm-type-id"], alarm["alarm-type-qualifier"]].map(encodeURIComponent).join(",");

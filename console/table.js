@@ -2,12 +2,13 @@
 
 import { make, setText } from "./dom.js";
 
-const HEIGHT = 30;
+const narrow = matchMedia("(max-width: 900px)");
+const height = () => (narrow.matches ? 54 : 30);
 const BEYOND = 8;
 
 /**
  * A table of columns `{ title, name, fill(cell, item), fresh }`, where `fresh` says that a cell is filled anew each second; `keyOf` tells items
- * apart, `chosen` hears of the item that was chosen and whether it was asked to be opened, `looks` gives the class of an item's row.
+ * apart, `chosen` hears of the item that was chosen, and by what it is to be opened (`click`, `key`) or that it isn't, `looks` gives the class of an item's row.
  */
 export class Table {
   constructor(place, { label, columns, keyOf, chosen, looks }) {
@@ -24,6 +25,7 @@ export class Table {
     this.body.addEventListener("keydown", (event) => this.press(event));
     this.space.addEventListener("click", (event) => this.click(event));
     new ResizeObserver(() => this.draw()).observe(this.body);
+    narrow.addEventListener("change", () => this.drawAnew());
   }
 
   heading() {
@@ -31,11 +33,15 @@ export class Table {
     return make("div", { role: "rowgroup", class: "heading" }, make("div", { role: "row", class: "row", "aria-rowindex": 1 }, ...titles));
   }
 
-  /** Shows these items, in this order. */
+  /** Shows these items, in this order. Whoever has scrolled down keeps the row that stands at the top. */
   show(items, nothing) {
+    const top = this.body.scrollTop > 0 && this.items[Math.floor(this.body.scrollTop / height())];
+    const before = this.items.indexOf(top);
     this.items = items;
     this.body.setAttribute("aria-rowcount", items.length + 1);
-    this.space.style.height = `${items.length * HEIGHT}px`;
+    this.space.style.height = `${items.length * height()}px`;
+    const behind = top ? items.findIndex((item) => this.keyOf(item) === this.keyOf(top)) : -1;
+    if (behind >= 0 && behind !== before) this.body.scrollTop += (behind - before) * height();
     this.empty.hidden = items.length > 0;
     setText(this.empty, nothing);
     this.draw();
@@ -43,9 +49,17 @@ export class Table {
 
   /** The places of the rows in sight, and some beyond. */
   sight() {
-    const first = Math.floor(this.body.scrollTop / HEIGHT);
-    const count = Math.ceil(this.body.clientHeight / HEIGHT);
+    const first = Math.floor(this.body.scrollTop / height());
+    const count = Math.ceil(this.body.clientHeight / height());
     return [Math.max(0, first - BEYOND), Math.min(this.items.length, first + count + BEYOND)];
+  }
+
+  /** Draws every row anew, where their height is another. */
+  drawAnew() {
+    for (const row of this.rows.values()) row.remove();
+    this.rows.clear();
+    this.space.style.height = `${this.items.length * height()}px`;
+    this.draw();
   }
 
   draw() {
@@ -81,7 +95,7 @@ export class Table {
   blank(at) {
     const cells = this.columns.map(({ name }) => make("div", { role: "gridcell", class: name }));
     const row = make("div", { role: "row", class: "row", id: `${this.id}-${at}`, "aria-rowindex": at + 2 }, ...cells);
-    row.style.transform = `translateY(${at * HEIGHT}px)`;
+    row.style.transform = `translateY(${at * height()}px)`;
     return row;
   }
 
@@ -100,32 +114,32 @@ export class Table {
 
   /** Scrolls so that the item at this place is in sight. */
   reveal(at) {
-    const room = this.body.clientHeight - HEIGHT;
+    const room = this.body.clientHeight - height();
     const top = this.body.scrollTop;
-    if (at * HEIGHT < top) this.body.scrollTop = at * HEIGHT;
-    else if ((at + 1) * HEIGHT > top + room) this.body.scrollTop = (at + 1) * HEIGHT - room;
+    if (at * height() < top) this.body.scrollTop = at * height();
+    else if ((at + 1) * height() > top + room) this.body.scrollTop = (at + 1) * height() - room;
   }
 
-  go(at, open) {
+  go(at, how) {
     if (this.items.length === 0) return;
     const item = this.items[Math.min(Math.max(at, 0), this.items.length - 1)];
     this.reveal(this.items.indexOf(item));
     this.choose(this.keyOf(item));
-    this.chosen(item, open);
+    this.chosen(item, how);
   }
 
   click(event) {
     const row = event.target.closest(".row");
-    if (row) this.go(this.items.indexOf(row.item), true);
+    if (row) this.go(this.items.indexOf(row.item), "click");
   }
 
   press(event) {
     if (event.ctrlKey || event.metaKey || event.altKey) return;
     const at = this.items.findIndex((item) => this.keyOf(item) === this.key);
-    const page = Math.max(1, Math.floor(this.body.clientHeight / HEIGHT) - 2);
+    const page = Math.max(1, Math.floor(this.body.clientHeight / height()) - 2);
     const places = { ArrowDown: at + 1, ArrowUp: at < 0 ? 0 : at - 1, PageDown: at + page, PageUp: at - page, Home: 0, End: this.items.length - 1, Enter: at };
     if (!(event.key in places)) return;
     event.preventDefault();
-    this.go(places[event.key], event.key === "Enter");
+    this.go(places[event.key], event.key === "Enter" ? "key" : null);
   }
 }
