@@ -23,7 +23,7 @@ export class Follower {
   }
 
   forget() {
-    Object.assign(this, { place: null, sent: 0, rows: new Map(), shelved: [], shelves: [], notes: [], oldest: 1 });
+    Object.assign(this, { place: null, sent: 0, rows: new Map(), shelved: [], shelves: [], notes: [], oldest: 1, last: null, unread: null });
   }
 
   /** Looks again and again. A look that is wanted meanwhile, as after an action, comes at once, or right behind the one under way. */
@@ -47,11 +47,12 @@ export class Follower {
 
   async look() {
     try {
-      const step = await restconf.notesFrom(this.place === null ? BEYOND_ALL : this.sent + 1);
+      const step = await restconf.notesFrom(this.place === null ? BEYOND_ALL : this.sent);
       learnTime(step.date);
       if (this.place === null) await this.begin(step);
-      else if (step.place < this.place || step.sent < this.sent) this.beginAnew();
+      else if (!this.isSame(step)) this.beginAnew();
       else if (step.place > this.place) await this.goOn(step);
+      if (this.unread) await this.readPast(this.unread);
       this.since = null;
       this.reached = Date.now();
       this.looked(null);
@@ -63,7 +64,13 @@ export class Follower {
     }
   }
 
-  /** Another history stands there than the one that was followed. */
+  /** Whether it is the history that was followed: it hasn't fallen, and still has the last note that is known, which is asked for again. */
+  isSame(step) {
+    const known = this.last && JSON.stringify(this.last);
+    return step.place >= this.place && step.sent >= this.sent && (!known || JSON.stringify(step.notes[0]) === known);
+  }
+
+  /** Another history stands there, or one that has gone on further than its log goes back. */
   beginAnew() {
     this.forget();
     this.isWanted = true;
@@ -73,11 +80,11 @@ export class Follower {
     await this.readAll();
     Object.assign(this, { place: step.place, sent: step.sent, oldest: step.oldest });
     this.changed([]);
-    this.readPast(step.oldest, step.sent).catch(() => {});
+    this.unread = { oldest: step.oldest, newest: step.sent };
   }
 
   /** The notes that were there before, which the list doesn't wait for. */
-  async readPast(oldest, newest) {
+  async readPast({ oldest, newest }) {
     const past = [];
     for (let from = oldest; from <= newest; ) {
       const { notes } = await restconf.notesFrom(from);
@@ -85,7 +92,7 @@ export class Follower {
       past.push(...notes.filter((note) => note.number <= newest));
       from = notes.at(-1).number + 1;
     }
-    this.notes = [...past, ...this.notes].slice(-KEPT);
+    Object.assign(this, { notes: past, last: past.at(-1), unread: null });
     this.changed([]);
   }
 
@@ -101,12 +108,13 @@ export class Follower {
     else await this.readAll();
     Object.assign(this, { place: step.place, sent: step.sent, oldest: step.oldest });
     this.notes = [...this.notes, ...added].slice(-KEPT);
+    this.last = added.at(-1) ?? this.last;
     this.changed(added);
   }
 
   /** The notes from the last known one to the step's; a page has 256 of them. */
   async added(step) {
-    const added = [...step.notes];
+    const added = step.notes.filter(({ number }) => number > this.sent);
     while (added.length > 0 && added.at(-1).number < step.sent) {
       const { notes } = await restconf.notesFrom(added.at(-1).number + 1);
       if (notes.length === 0) break;
