@@ -209,7 +209,21 @@ def night_events(now):
             events.append((later(), action_event(alarm, 1, ("ann", "bob")[chance.below(2)], "on my way")))
         if chance.below(3) == 0:
             events.append((now - chance.below(1000) * (now - start) // 3000, report_event(alarm, 0, "good again")))
-    return [(now - 7 * hour, inventory_event())] + sorted(events)
+    return [(now - 7 * hour, inventory_event())] + sorted(events + story_of(now))
+
+
+TOLD = ("core2/slot4/port9", "net:low-light")
+
+
+def story_of(now):
+    """One alarm with a longer history, which the picture shows, and another one at a resource below."""
+    minute = 60_000
+    steps = [(200, 3, "-25.1 dBm, limit -24 dBm"), (171, 0, "-22.9 dBm"), (140, 2, "-24.6 dBm, limit -24 dBm"), (96, 4, "-26.8 dBm, limit -24 dBm"),
+             (38, 5, "-31.9 dBm, limit -24 dBm")]
+    acts = [(189, 1, "ann", "asked the site to look at the splice"), (120, 0, "bob", "it comes and goes"), (31, 1, "ann", "a crew is on its way")]
+    below = report_event((TOLD[0] + "/lane1", "net:link-down"), 4, "no carrier")
+    return [(now - at * minute, report_event(TOLD, *rest)) for at, *rest in steps] + [
+        (now - at * minute, action_event(TOLD, *rest)) for at, *rest in acts] + [(now - 36 * minute, below)]
 
 
 def journal_of(path, capacity, events):
@@ -638,8 +652,7 @@ def try_many(front, served, page):
 def take_picture(page, path):
     page.size(1280, 800)
     page.press(Keys.ESCAPE)
-    key = page.js("return [...document.querySelectorAll('#list .space .row')].find((row) => row.children[5].textContent !== '').children[1].textContent")
-    open_row(page, key)
+    open_row(page, TOLD[0])
     time.sleep(0.5)
     page.picture(path)
     if shutil.which("pngquant"):
@@ -649,8 +662,24 @@ def take_picture(page, path):
     page.size(1440, 900)
 
 
+CONTRAST = """
+  const channels = (text) => text.match(/[0-9.]+/g).slice(0, 3).map((each) => each / 255).map((each) => each <= 0.04045 ? each / 12.92 : ((each + 0.055) / 1.055) ** 2.4);
+  const light = (text) => { const [r, g, b] = channels(text); return 0.2126 * r + 0.7152 * g + 0.0722 * b; };
+  const under = (each) => { for (; each; each = each.parentElement) { const ground = getComputedStyle(each).backgroundColor; if (!/, 0\\)$/.test(ground)) return ground; } return "rgb(255,255,255)"; };
+  return [...document.querySelectorAll(".chip, .part, small, .state, button, legend, .heading, .row .words")].filter((each) => each.textContent.trim() && each.offsetParent).map((each) => {
+    const [a, b] = [light(getComputedStyle(each).color), light(under(each))];
+    return [(Math.max(a, b) + 0.05) / (Math.min(a, b) + 0.05), each.className || each.tagName, each.textContent.slice(0, 20)];
+  }).sort(([a], [b]) => a - b).slice(0, 3);"""
+
+
 def try_looks(page):
-    """Light and dark by what the system prefers; a narrow window needs no scrolling sideways."""
+    """Light and dark by what the system prefers, each with enough contrast; a narrow window needs no scrolling sideways."""
+    for scheme in ("light", "dark"):
+        page.scheme(scheme)
+        time.sleep(0.3)
+        least = page.js(CONTRAST)
+        wants(least[0][0] >= 4.5, f"too little contrast in {scheme}", least)
+    page.scheme("light")
     ground = lambda: page.js("return getComputedStyle(document.body).backgroundColor")
     light = ground()
     page.scheme("dark")

@@ -100,8 +100,8 @@ function listActions(row, act) {
   const button = (label, state) => make("button", { type: "button", "data-state": state, onclick: () => act.set(row, state, text.value) }, label);
   return [
     make("label", { class: "text" }, "Text ", text),
-    make("div", { class: "line" }, button("Acknowledge", "ack"), button("Close", "closed"), button("Take back", "none"),
-      make("button", { type: "button", id: "shelve", onclick: () => act.shelve(row) }, "Shelve this …")),
+    make("div", { class: "line" }, button("Acknowledge", "ack"), button("Close", "closed"), button("Back to new", "none"),
+      make("button", { type: "button", id: "shelve", onclick: () => act.shelve(row) }, "Shelve …")),
   ];
 }
 

@@ -3,7 +3,8 @@
 import { byId, make } from "./dom.js";
 
 /**
- * Asks in a dialog. The answer is what stands in the field, true where there is none, and null where the user went back.
+ * Asks in a dialog, whose lines are texts or elements. The answer is what stands in the field, true where there is none, and null where the user
+ * went back. Where there is no action, it only tells.
  */
 export function ask({ title, lines, field, action }) {
   const dialog = byId("dialog");
@@ -17,9 +18,9 @@ export function ask({ title, lines, field, action }) {
     };
     const form = make("form", { onsubmit: submit },
       make("h2", { id: "dialog-title" }, title),
-      ...lines.map((line) => make("p", {}, line)),
+      ...lines.map((line) => make("div", {}, line)),
       input ? make("label", {}, field.label, input) : null,
-      make("div", { class: "line" }, make("button", { class: "main" }, action), make("button", { type: "button", onclick: () => dialog.close() }, "Back")));
+      make("div", { class: "line" }, action && make("button", { class: "main" }, action), make("button", { type: "button", onclick: () => dialog.close() }, action ? "Back" : "Close")));
     dialog.replaceChildren(form);
     dialog.addEventListener("close", () => resolve(answer), { once: true });
     dialog.showModal();

@@ -20,13 +20,21 @@ let isBusy = false;
 // --- tables
 
 function text(cell, value, hint = value) {
-  cell.replaceChildren(told(value));
+  if (cell.firstChild) setText(cell.firstChild, value);
+  else cell.append(told(value));
   cell.title = hint;
 }
 
+/** What a chip says, and of which severity it has the colour. */
+function chip(cell, words, kind) {
+  if (!cell.firstChild) cell.append(make("span"));
+  cell.firstChild.className = `chip ${kind}`;
+  setText(cell.firstChild, words);
+  cell.title = words;
+}
+
 const columns = [
-  { title: "Severity", name: "severity", fill: (cell, { alarm }) => cell.replaceChildren(
-    make("span", { class: `chip ${alarm["is-cleared"] ? "cleared" : alarm["perceived-severity"]}` }, severityWords(alarm))) },
+  { title: "Severity", name: "severity", fill: (cell, { alarm }) => chip(cell, severityWords(alarm), alarm["is-cleared"] ? "cleared" : alarm["perceived-severity"]) },
   { title: "Resource", name: "resource", fill: (cell, { alarm }) => text(cell, alarm.resource) },
   { title: "Type", name: "type", fill: (cell, { alarm }) => text(cell, typeOf(alarm)) },
   { title: "Text", name: "words", fill: (cell, { alarm }) => text(cell, alarm["alarm-text"]) },
@@ -53,7 +61,7 @@ const shelf = new Table(byId("shelf"), {
 function whatOf(cell, note) {
   const change = note["ietf-alarms:alarm-notification"];
   const word = change ? change["perceived-severity"] : OPERATOR_WORDS[subjectOf(note).state];
-  cell.replaceChildren(make("span", { class: `chip ${change ? word : "plain"}` }, word));
+  chip(cell, word, change ? word : "plain");
 }
 
 const log = new Table(byId("log"), {
@@ -162,7 +170,7 @@ function showState(refusal) {
   const shown = follower.reached ? `What is shown is from ${moment(follower.reached)}.` : "Nothing is shown yet.";
   const why = refusal.isOutOfReach ? "The server can't be reached" : `${refusal.message} So it is`;
   setText(stale, `${why} since ${moment(follower.since)}. ${shown}`);
-  setText(byId("state"), "Old: see above");
+  setText(byId("state"), "Old");
   showTitle("old, ");
 }
 
@@ -257,7 +265,7 @@ async function carryOut(action) {
   follower.now();
 }
 
-const DONE = { ack: "Acknowledged", closed: "Closed", none: "Taken back" };
+const DONE = { ack: "Acknowledged", closed: "Closed", none: "New again" };
 
 const act = {
   close: closeDetail,
@@ -349,7 +357,7 @@ const KEYS = [
   ["a, c", "to acknowledge, to close it: the text, then Enter"], ["s", "shelve it"], ["Escape", "close the detail"], ["?", "these keys"],
 ];
 
-const showKeys = () => ask({ title: "Keys", action: "Good", lines: KEYS.map(([key, what]) => `${key}  –  ${what}`) });
+const showKeys = () => ask({ title: "Keys", action: null, lines: [make("dl", {}, ...KEYS.flatMap(([key, what]) => [make("dt", {}, make("kbd", {}, key)), make("dd", {}, what)]))] });
 
 /** A key that acts on the alarm that is open. */
 function pressOnAlarm(key) {

@@ -62,40 +62,49 @@ export class Table {
     this.draw();
   }
 
+  /** Draws the rows in sight. Elements of rows that have left it are taken for those that come. */
   draw() {
     const [first, end] = this.sight();
-    for (const [at, row] of this.rows) {
-      if (at < first || at >= end) {
-        row.remove();
-        this.rows.delete(at);
-      }
+    const free = [...this.rows.keys()].filter((at) => at < first || at >= end);
+    for (let at = first; at < end; at += 1) {
+      if (!this.rows.has(at)) this.move(free.pop(), at);
+      this.fill(this.rows.get(at), this.items[at]);
     }
-    for (let at = first; at < end; at += 1) this.place(at);
-    const chosen = this.items.findIndex((item) => this.keyOf(item) === this.key);
-    if (this.rows.has(chosen)) this.body.setAttribute("aria-activedescendant", `${this.id}-${chosen}`);
+    for (const at of free) {
+      this.rows.get(at).remove();
+      this.rows.delete(at);
+    }
+    const chosen = [...this.rows.values()].find((row) => this.keyOf(row.item) === this.key);
+    if (chosen) this.body.setAttribute("aria-activedescendant", chosen.id);
     else this.body.removeAttribute("aria-activedescendant");
   }
 
-  place(at) {
-    let row = this.rows.get(at);
-    if (!row) {
-      row = this.blank(at);
-      this.rows.set(at, row);
-      this.space.append(row);
-    }
-    const item = this.items[at];
+  /** Moves an element from the place that it had, or a new one, to another place. */
+  move(from, at) {
+    const row = from === undefined ? this.blank() : this.rows.get(from);
+    this.rows.delete(from);
+    this.rows.set(at, row);
+    row.id = `${this.id}-${at}`;
+    row.setAttribute("aria-rowindex", at + 2);
+    row.style.transform = `translateY(${at * height()}px)`;
+  }
+
+  fill(row, item) {
     const isChosen = this.keyOf(item) === this.key;
-    row.className = `row ${this.looks(item)}${isChosen ? " chosen" : ""}`;
-    row.setAttribute("aria-selected", isChosen);
+    const looks = `row ${this.looks(item)}${isChosen ? " chosen" : ""}`;
+    if (row.className !== looks) {
+      row.className = looks;
+      row.setAttribute("aria-selected", isChosen);
+    }
     if (row.item === item) return;
     row.item = item;
     this.columns.forEach((column, number) => column.fill(row.children[number], item));
   }
 
-  blank(at) {
+  blank() {
     const cells = this.columns.map(({ name }) => make("div", { role: "gridcell", class: name }));
-    const row = make("div", { role: "row", class: "row", id: `${this.id}-${at}`, "aria-rowindex": at + 2 }, ...cells);
-    row.style.transform = `translateY(${at * height()}px)`;
+    const row = make("div", { role: "row", "aria-selected": "false" }, ...cells);
+    this.space.append(row);
     return row;
   }
 
@@ -130,7 +139,7 @@ export class Table {
 
   click(event) {
     const row = event.target.closest(".row");
-    if (row) this.go(this.items.indexOf(row.item), "click");
+    if (row?.item) this.go(this.items.indexOf(row.item), "click");
   }
 
   press(event) {
