@@ -372,7 +372,10 @@ function pressOnAlarm(key) {
 /** Goes to the text of an action, which Enter carries out. */
 function prepare(state) {
   const input = byId("action-text");
+  const { placeholder } = input;
   input.focus();
+  input.placeholder = state === "ack" ? "Enter acknowledges" : "Enter closes the alarm";
+  input.onblur = () => Object.assign(input, { placeholder, onkeydown: null, onblur: null });
   input.onkeydown = (event) => {
     if (event.key !== "Enter") return;
     event.preventDefault();
