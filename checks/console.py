@@ -642,7 +642,7 @@ def try_many(front, served, page):
     middle, worst = frames[len(frames) // 2], frames[-1]
     told = f"first list {first:.2f} s; filters {', '.join(f'{each:.0f}' for each in times)} ms; frames {middle:.0f} ms in the middle, {worst:.0f} at worst"
     print(f"console: {ALARMS} alarms: {told}; {most} rows are elements")
-    wants(first < 2 and max(times) < 200 and middle < 60, "it is too slow", told)
+    wants(first < 2 and max(times) < 200 and middle < 100, "it is too slow", told)
 
 
 def take_picture(page, path):

@@ -21,7 +21,7 @@ const filteredState = (alarm) => (["ack", "closed"].includes(operatorState(alarm
 /** An alarm with what ordering and filtering ask of it again and again. */
 export function rowOf(alarm) {
   const action = lastAction(alarm);
-  const texts = [alarm.resource, typeOf(alarm), alarm["alarm-text"], action?.operator ?? "", action?.text ?? "", alarm["shelf-name"] ?? ""];
+  const texts = [alarm.resource, typeOf(alarm), alarm["alarm-text"], action?.operator ?? "", action?.text ?? ""];
   return {
     alarm,
     key: keyOf(alarm),
@@ -60,7 +60,10 @@ export function summaryOf(rows) {
 }
 
 /** How severity and clearance are said. */
-export const severityWords = (alarm) => (alarm["is-cleared"] ? `cleared, was ${alarm["perceived-severity"]}` : alarm["perceived-severity"]);
+export const severityWords = (alarm) => `${alarm["is-cleared"] ? "cleared, was " : ""}${alarm["perceived-severity"]}`;
+
+/** Of which severity an alarm has the colour. */
+export const lookOf = (alarm) => (alarm["is-cleared"] ? "cleared" : alarm["perceived-severity"]);
 
 export function operatorWords(alarm) {
   const action = lastAction(alarm);

@@ -7,7 +7,7 @@ const height = () => (narrow.matches ? 54 : 30);
 const BEYOND = 8;
 
 /**
- * A table of columns `{ title, name, fill(cell, item), fresh }`, where `fresh` says that a cell is filled anew each second; `keyOf` tells items
+ * A table of columns `{ title, name, fill(cell, item), isFresh }`, where `isFresh` says that a cell is filled anew each second; `keyOf` tells items
  * apart, `chosen` hears of the item that was chosen, and by what it is to be opened (`click`, `key`) or that it isn't, `looks` gives the class of an item's row.
  */
 export class Table {
@@ -111,7 +111,7 @@ export class Table {
   /** Fills anew what changes as time goes on. */
   tick() {
     for (const row of this.rows.values()) {
-      this.columns.forEach(({ fresh, fill }, number) => fresh && fill(row.children[number], row.item));
+      this.columns.forEach(({ isFresh, fill }, number) => isFresh && fill(row.children[number], row.item));
     }
   }
 
