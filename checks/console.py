@@ -624,8 +624,8 @@ FILTER = """
 
 
 def try_many(front, served, page):
-    """Times of the first list, of filters, and of frames while it scrolls; another history in the server's place is seen as one."""
-    until(lambda: page.text("count-list") == str(ALARMS), "another history is followed", 20)
+    """Times of the first list, of filters (the least of three), and of frames while it scrolls; the page follows to all of them."""
+    until(lambda: page.text("count-list") == str(ALARMS), "all alarms are followed", 30)
     page.driver.get("about:blank")
     begin = time.monotonic()
     page.driver.get(page.address)
@@ -636,9 +636,13 @@ def try_many(front, served, page):
     wants(top > 100_000 and most < 100, "the list doesn't scroll, or has too many elements", f"{top} {most}")
     times = []
     for word, count in (("port/00007", 1), ("slot/3", ALARMS // 8), ("0", ALARMS)):
-        spent, shown = page.driver.execute_async_script(FILTER, word)
-        wants(shown == f"{count} of {ALARMS} alarms", "the filter lets others through", shown)
-        times.append(spent)
+        tries = []
+        for _ in range(3):
+            page.driver.execute_async_script(FILTER, "chassis")
+            spent, shown = page.driver.execute_async_script(FILTER, word)
+            wants(shown == f"{count} of {ALARMS} alarms", "the filter lets others through", shown)
+            tries.append(spent)
+        times.append(min(tries))
     middle, worst = frames[len(frames) // 2], frames[-1]
     told = f"first list {first:.2f} s; filters {', '.join(f'{each:.0f}' for each in times)} ms; frames {middle:.0f} ms in the middle, {worst:.0f} at worst"
     print(f"console: {ALARMS} alarms: {told}; {most} rows are elements")
@@ -717,6 +721,7 @@ def main(program, top, work, picture=None):
     made(program, many, 16 << 20)
     served.words[2] = many
     served.begin()
+    until(lambda: page.text("count-list") == "0" and "There is no alarm." in page.text("list"), "an empty history is followed")
     fill(served)
     page.messages()  # requests that failed meanwhile
     try_many(front, served, page)

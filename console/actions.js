@@ -56,7 +56,10 @@ export class Actions {
   async shelve({ alarm }) {
     const name = await ask({
       title: "Shelve this alarm",
-      lines: [`${alarm.resource}, ${typeOf(alarm)}: it leaves the list and sends no notifications until its shelf is taken away.`],
+      lines: [
+        `${alarm.resource}, ${typeOf(alarm)}`,
+        "It leaves the list, and sends no notifications, until its shelf is taken away.",
+      ],
       field: { label: "Name of the shelf ", value: asName(alarm.resource), most: NAME_BYTES },
       action: "Shelve",
     });

@@ -58,6 +58,10 @@ function ticks(hours, end, scale, width) {
   return labels;
 }
 
+/** Covers the time of notes that are no longer kept. */
+const unkept = (width) =>
+  draw("rect", { class: "unkept", x: LEFT, y: TOP, width, height: HEIGHT - FOOT - TOP }, draw("title", {}, "no longer kept"));
+
 /** Draws the chart. `kept` is the time of the oldest note where older ones are no longer kept, else none. */
 export function showChart(place, notes, hours, kept) {
   const end = (Math.floor(now() / WIDTHS[hours]) + 1) * WIDTHS[hours];
@@ -70,12 +74,14 @@ export function showChart(place, notes, hours, kept) {
   const unit = (HEIGHT - TOP - FOOT) / (most + least);
   const zero = TOP + most * unit;
   const broad = (width - LEFT) / columns.length;
-  const parts = columns.flatMap((column, number) => pieces(column, LEFT + number * broad + 0.5, Math.max(1, broad - 1), zero, unit));
-  const drawing = draw("svg", { viewBox: `0 0 ${width} ${HEIGHT}`, width, height: HEIGHT, role: "img", "aria-label": words(columns, hours) },
-    ...ticks(hours, end, scale, width), ...parts,
+  const drawn = (column, number) => pieces(column, LEFT + number * broad + 0.5, Math.max(1, broad - 1), zero, unit);
+  const label = (y, number) => draw("text", { x: LEFT - 5, y, "text-anchor": "end" }, String(number));
+  const frame = { viewBox: `0 0 ${width} ${HEIGHT}`, width, height: HEIGHT, role: "img", "aria-label": words(columns, hours) };
+  place.replaceChildren(draw("svg", frame,
+    ...ticks(hours, end, scale, width),
+    ...columns.flatMap(drawn),
     draw("line", { class: "axis", x1: LEFT, x2: width, y1: zero, y2: zero }),
-    draw("text", { x: LEFT - 5, y: TOP + 8, "text-anchor": "end" }, String(most)),
-    least > 0 ? draw("text", { x: LEFT - 5, y: HEIGHT - FOOT, "text-anchor": "end" }, String(least)) : null);
-  if (kept > begin) drawing.append(draw("rect", { class: "unkept", x: LEFT, y: TOP, width: scale(kept) - LEFT, height: HEIGHT - FOOT - TOP }, draw("title", {}, "no longer kept")));
-  place.replaceChildren(drawing);
+    label(TOP + 8, most),
+    least > 0 ? label(HEIGHT - FOOT, least) : null,
+    kept > begin ? unkept(scale(Math.min(kept, end)) - LEFT) : null));
 }

@@ -136,19 +136,21 @@ export class Detail {
   }
 
   ofList(row) {
-    const text = make("input", { id: "action-text", maxlength: 255, autocomplete: "off", placeholder: "what others should know" });
+    const placeholder = "what others should know";
+    const text = make("input", { id: "action-text", maxlength: 255, autocomplete: "off", placeholder });
     const setting = (label, state) => {
       const set = () => this.actions.setState(row, state, text.value);
       return make("button", { type: "button", "data-state": state, onclick: set }, label);
     };
     const shelve = make("button", { type: "button", id: "shelve", onclick: () => this.actions.shelve(row) }, "Shelve …");
-    const buttons = [setting("Acknowledge", "ack"), setting("Close", "closed"), setting("Back to new", "none"), shelve];
+    const buttons = [setting("Acknowledge", "ack"), setting("Close alarm", "closed"), setting("Back to new", "none"), shelve];
     return [make("label", { class: "text" }, "Text ", text), make("div", { class: "line" }, ...buttons)];
   }
 
   ofShelf({ alarm }) {
     const unshelve = () => this.actions.unshelve(alarm["shelf-name"]);
-    return [make("div", { class: "line" }, make("button", { type: "button", id: "unshelve", onclick: unshelve }, "Unshelve …"))];
+    const button = make("button", { type: "button", id: "unshelve", onclick: unshelve }, "Unshelve …");
+    return [make("div", { class: "line" }, button)];
   }
 
   hide() {

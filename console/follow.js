@@ -1,5 +1,5 @@
-// Follows the server: one small request every two seconds, for what the log has beyond what is known. Only where the place of the history has moved is
-// more asked for.
+// Follows the server: one small request every two seconds, for what the log has beyond what is known. Only where the place of
+// the history has moved is more asked for.
 
 import * as restconf from "./restconf.js";
 import { keyOf, rowOf } from "./alarms.js";
@@ -23,10 +23,11 @@ export class Follower {
   }
 
   forget() {
-    Object.assign(this, { place: null, sent: 0, rows: new Map(), shelved: [], shelves: [], notes: [], oldest: 1, last: null, unread: null });
+    Object.assign(this, { place: null, sent: 0, oldest: 1, last: null, unread: null });
+    Object.assign(this, { rows: new Map(), shelved: [], shelves: [], notes: [] });
   }
 
-  /** Looks again and again. A look that is wanted meanwhile, as after an action, comes at once, or right behind the one under way. */
+  /** Looks again and again. One that is wanted besides, as after an action, comes at once, or right behind the one under way. */
   start() {
     const turn = async () => {
       clearTimeout(this.timer);
@@ -64,7 +65,7 @@ export class Follower {
     }
   }
 
-  /** Whether it is the history that was followed: it hasn't fallen, and still has the last note that is known, which is asked for again. */
+  /** Whether it is the history that was followed: it hasn't fallen, and has the last known note, which is asked for again. */
   isSame(step) {
     const known = this.last && JSON.stringify(this.last);
     return step.place >= this.place && step.sent >= this.sent && (!known || JSON.stringify(step.notes[0]) === known);
@@ -97,8 +98,9 @@ export class Follower {
   }
 
   /**
-   * Goes on to a further place. Each entry of the history sends one note at most: where as many notes came as entries, what the notes name is all that
-   * has changed. Else some entry was of another kind, or about the shelf, or sent nothing, and everything is read.
+   * Goes on to a further place. Each entry of the history sends one note at most: where as many notes came as entries, what the
+   * notes name is all that has changed. Else some entry was of another kind, or about the shelf, or sent nothing, and everything
+   * is read.
    */
   async goOn(step) {
     const added = await this.added(step);

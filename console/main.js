@@ -20,11 +20,15 @@ const detail = new Detail(actions, closeDetail);
 const filters = new Filters(filterList);
 const tables = makeTables({ chosen, noted: openKey });
 const opened = { key: null, isShelved: false };
+let sorted = [];
+let summary = summaryOf([]);
 let types = null;
 
 // --- what is shown
 
 function showAll(notes) {
+  sorted = [...follower.rows.values()].sort(worstAndNewest);
+  summary = summaryOf(sorted);
   showList();
   showShelf();
   showLog();
@@ -35,10 +39,10 @@ function showAll(notes) {
 }
 
 function showList() {
-  const rows = [...follower.rows.values()].filter(filters.passes).sort(worstAndNewest);
+  const rows = sorted.filter(filters.passes);
   tables.list.show(rows, follower.rows.size ? "No alarm passes the filters." : "There is no alarm.");
   setText(byId("shown-list"), `${rows.length} of ${follower.rows.size} alarms`);
-  showSummary(byId("summary"), summaryOf(follower.rows.values()), filters.alone, (severity) => filters.choose(severity));
+  showSummary(byId("summary"), summary, filters.alone, (severity) => filters.choose(severity));
 }
 
 function filterList() {
@@ -86,7 +90,7 @@ function showCounts() {
 }
 
 function showTitle(old) {
-  const { standing } = summaryOf(follower.rows.values()).get("critical");
+  const { standing } = summary.get("critical");
   document.title = old || standing ? `(${old}${standing} critical) Alarms` : "Alarms";
 }
 
@@ -118,15 +122,14 @@ function showState(refusal) {
 
 // --- the detail
 
-function relatedTo({ key, alarm }) {
-  const others = [...follower.rows.values()].filter((row) => row.key !== key && isRelated(row.alarm.resource, alarm.resource));
-  return others.sort(worstAndNewest);
-}
+const relatedTo = ({ key, alarm }) =>
+  sorted.filter((row) => row.key !== key && isRelated(row.alarm.resource, alarm.resource));
 
 function showDetail() {
   if (!opened.key) return;
   const row = opened.isShelved ? follower.shelved.find(({ key }) => key === opened.key) : follower.rows.get(opened.key);
-  if (row) detail.show(row, opened.isShelved, { related: relatedTo(row), type: types?.get(typeOf(row.alarm)), open: openKey });
+  const type = row && types?.get(typeOf(row.alarm));
+  if (row) detail.show(row, opened.isShelved, { related: relatedTo(row), type, open: openKey });
   else closeDetail();
 }
 

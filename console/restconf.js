@@ -49,6 +49,8 @@ function inWords(status, body) {
   return `${words} (${message ? `${message}, ` : ""}status ${status})`.trim();
 }
 
+const LOOK = "Look at the list whether the change was made.";
+
 async function sent(method, path, body, seconds) {
   const headers = { Accept: JSON_TYPE };
   if (body !== undefined) headers["Content-Type"] = JSON_TYPE;
@@ -59,8 +61,9 @@ async function sent(method, path, body, seconds) {
       signal: AbortSignal.timeout(seconds * 1000),
     });
   } catch (fault) {
-    const why = fault.name === "TimeoutError" ? `Nothing was answered within ${seconds} seconds.` : "The server can't be reached.";
-    throw new Refusal(0, method === "GET" ? why : `${why} Look at the list whether the change was made.`);
+    const isLate = fault.name === "TimeoutError";
+    const why = isLate ? `Nothing was answered within ${seconds} seconds.` : "The server can't be reached.";
+    throw new Refusal(0, method === "GET" ? why : `${why} ${LOOK}`);
   }
 }
 
@@ -77,13 +80,18 @@ async function asked(method, path, body, seconds = 60) {
   const text = await response.text().catch(() => {
     throw new Refusal(0, "The answer broke off.");
   });
-  if (!response.ok) throw new Refusal(response.status, inWords(response.status, text));
-  return { place: Number(response.headers.get("Alarm-Place")), date: response.headers.get("Date"), body: text ? read(text) : null };
+  const { headers, ok, status } = response;
+  const isLost = method !== "GET" && [502, 504].includes(status);
+  if (!ok) throw new Refusal(status, inWords(status, text) + (isLost ? ` ${LOOK}` : ""));
+  return { place: Number(headers.get("Alarm-Place")), date: headers.get("Date"), body: text ? read(text) : null };
 }
 
-const keyed = (alarm) => [alarm.resource, alarm["alarm-type-id"], alarm["alarm-type-qualifier"]].map(encodeURIComponent).join(",");
+const keyed = (alarm) =>
+  [alarm.resource, alarm["alarm-type-id"], alarm["alarm-type-qualifier"]].map(encodeURIComponent).join(",");
 
-const only = async (path, member) => (await asked("GET", path)).body[member];
+async function only(path, member) {
+  return (await asked("GET", path)).body[`ietf-alarms:${member}`];
+}
 
 /** The notes from a number on, at most 256, with the place of the history and the server's time. It is the small request. */
 export async function notesFrom(number) {
@@ -92,19 +100,18 @@ export async function notesFrom(number) {
   return { place, date, sent: log.sent, oldest: log.oldest, notes: log.note ?? [] };
 }
 
-export const listed = async () => (await only(`${ALARMS}/alarm-list`, "ietf-alarms:alarm-list")).alarm ?? [];
-
-export const shelved = async () => (await only(`${ALARMS}/shelved-alarms`, "ietf-alarms:shelved-alarms"))["shelved-alarm"] ?? [];
-
-export const shelves = async () => (await only(`${ALARMS}/control/alarm-shelving`, "ietf-alarms:alarm-shelving")).shelf ?? [];
-
-export const inventory = async () => (await only(`${ALARMS}/alarm-inventory`, "ietf-alarms:alarm-inventory"))["alarm-type"] ?? [];
+export const listed = async () => (await only(`${ALARMS}/alarm-list`, "alarm-list")).alarm ?? [];
+export const shelved = async () => (await only(`${ALARMS}/shelved-alarms`, "shelved-alarms"))["shelved-alarm"] ?? [];
+export const shelves = async () => (await only(`${ALARMS}/control/alarm-shelving`, "alarm-shelving")).shelf ?? [];
+export const inventory = async () => (await only(`${ALARMS}/alarm-inventory`, "alarm-inventory"))["alarm-type"] ?? [];
 
 /** One alarm of the list. */
-export const alarmOf = async (key) => (await only(`${ALARMS}/alarm-list/alarm=${keyed(key)}`, "ietf-alarms:alarm"))[0];
+export const alarmOf = async (key) => (await only(`${ALARMS}/alarm-list/alarm=${keyed(key)}`, "alarm"))[0];
 
-export const setOperatorState = (alarm, state, text) =>
-  asked("POST", `${ALARMS}/alarm-list/alarm=${keyed(alarm)}/set-operator-state`, { "ietf-alarms:input": text ? { state, text } : { state } });
+export function setOperatorState(alarm, state, text) {
+  const input = text ? { state, text } : { state };
+  return asked("POST", `${ALARMS}/alarm-list/alarm=${keyed(alarm)}/set-operator-state`, { "ietf-alarms:input": input });
+}
 
 /** Makes a shelf; one of the same name isn't replaced. */
 export const addShelf = (shelf) => asked("POST", `${ALARMS}/control/alarm-shelving`, { "ietf-alarms:shelf": [shelf] });
@@ -112,10 +119,10 @@ export const addShelf = (shelf) => asked("POST", `${ALARMS}/control/alarm-shelvi
 export const dropShelf = (name) => asked("DELETE", `${ALARMS}/control/alarm-shelving/shelf=${encodeURIComponent(name)}`);
 
 const SIDES = {
-  list: { count: "alarm-list/number-of-alarms", number: "ietf-alarms:number-of-alarms", purge: "alarm-list/purge-alarms" },
+  list: { count: "alarm-list/number-of-alarms", number: "number-of-alarms", purge: "alarm-list/purge-alarms" },
   shelf: {
     count: "shelved-alarms/number-of-shelved-alarms",
-    number: "ietf-alarms:number-of-shelved-alarms",
+    number: "number-of-shelved-alarms",
     purge: "shelved-alarms/purge-shelved-alarms",
   },
 };
@@ -125,6 +132,7 @@ export const numberOf = (side) => only(`${ALARMS}/${SIDES[side].count}`, SIDES[s
 
 /** Purges what is cleared on a side, and tells how many alarms that were. */
 export async function purgeCleared(side) {
-  const { body } = await asked("POST", `${ALARMS}/${SIDES[side].purge}`, { "ietf-alarms:input": { "alarm-clearance-status": "cleared" } });
+  const input = { "ietf-alarms:input": { "alarm-clearance-status": "cleared" } };
+  const { body } = await asked("POST", `${ALARMS}/${SIDES[side].purge}`, input);
   return body["ietf-alarms:output"]["purged-alarms"];
 }

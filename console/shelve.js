@@ -1,4 +1,5 @@
-// The shelf that takes one alarm: its resource as a resource match, its type, its qualifier as a pattern (docs/PROFILE.md, "Resource matches").
+// The shelf that takes one alarm: its resource as a resource match, its type, its qualifier as a pattern (docs/PROFILE.md,
+// "Resource matches").
 
 const NAME = "[A-Za-z_][A-Za-z0-9_.-]*";
 const STEP = `/(?:${NAME}:)?${NAME}(?:\\[(?:\\.|(?:${NAME}:)?${NAME})=(?:'[^']*'|"[^"]*")\\])*`;
@@ -30,9 +31,7 @@ function resourceMatch(resource) {
 }
 
 export function shelfOf(alarm, name) {
-  return {
-    name,
-    resource: [resourceMatch(alarm.resource)],
-    "alarm-type": [{ "alarm-type-id": alarm["alarm-type-id"], "alarm-type-qualifier-match": pattern(alarm["alarm-type-qualifier"]) }],
-  };
+  const qualifier = pattern(alarm["alarm-type-qualifier"]);
+  const type = { "alarm-type-id": alarm["alarm-type-id"], "alarm-type-qualifier-match": qualifier };
+  return { name, resource: [resourceMatch(alarm.resource)], "alarm-type": [type] };
 }

@@ -21,7 +21,8 @@ function bar(summary) {
 }
 
 function tile(severity, { standing, open, cleared }, isAlone, choose) {
-  return make("button", { type: "button", class: "tile", "data-severity": severity, "aria-pressed": String(isAlone), title: `show ${severity} alone`, onclick: () => choose(severity) },
+  const said = { "data-severity": severity, "aria-pressed": String(isAlone), title: `show ${severity} alone` };
+  return make("button", { type: "button", class: "tile", ...said, onclick: () => choose(severity) },
     make("span", { class: `chip ${severity}` }, severity),
     make("strong", {}, String(standing)),
     make("small", {}, `${open} new`),

@@ -1,4 +1,5 @@
-// A table of which only the rows in sight are elements, so that ten thousand rows are as quick as ten. One row is chosen at a time, by mouse or keys.
+// A table of which only the rows in sight are elements, so that ten thousand rows are as quick as ten. One row is chosen at a
+// time, by mouse or keys.
 
 import { make, setText } from "./dom.js";
 
@@ -7,8 +8,9 @@ const height = () => (narrow.matches ? 54 : 30);
 const BEYOND = 8;
 
 /**
- * A table of columns `{ title, name, fill(cell, item), isFresh }`, where `isFresh` says that a cell is filled anew each second; `keyOf` tells items
- * apart, `chosen` hears of the item that was chosen, and by what it is to be opened (`click`, `key`) or that it isn't, `looks` gives the class of an item's row.
+ * A table of columns `{ title, name, fill(cell, item), isFresh }`, where `isFresh` says that a cell is filled anew each second.
+ * `keyOf` tells items apart, `looks` gives the class of an item's row, and `chosen` hears of the item that was chosen, and by what
+ * it is to be opened (`click`, `key`) or that it isn't (null).
  */
 export class Table {
   constructor(place, { label, columns, keyOf, chosen, looks }) {
@@ -17,7 +19,8 @@ export class Table {
     this.key = null;
     this.rows = new Map();
     this.space = make("div", { class: "space", role: "rowgroup" });
-    this.body = make("div", { class: "body", role: "grid", "aria-label": label, "aria-colcount": columns.length, tabindex: 0 }, this.heading(), this.space);
+    const grid = { role: "grid", "aria-label": label, "aria-colcount": columns.length, tabindex: 0 };
+    this.body = make("div", { class: "body", ...grid }, this.heading(), this.space);
     this.empty = make("p", { class: "empty", hidden: true });
     place.classList.add("table");
     place.append(this.body, this.empty);
@@ -30,7 +33,8 @@ export class Table {
 
   heading() {
     const titles = this.columns.map(({ title, name }) => make("div", { role: "columnheader", class: name }, title));
-    return make("div", { role: "rowgroup", class: "heading" }, make("div", { role: "row", class: "row", "aria-rowindex": 1 }, ...titles));
+    const row = make("div", { role: "row", class: "row", "aria-rowindex": 1 }, ...titles);
+    return make("div", { role: "rowgroup", class: "heading" }, row);
   }
 
   /** Shows these items, in this order. Whoever has scrolled down keeps the row that stands at the top. */
@@ -146,7 +150,8 @@ export class Table {
     if (event.ctrlKey || event.metaKey || event.altKey) return;
     const at = this.items.findIndex((item) => this.keyOf(item) === this.key);
     const page = Math.max(1, Math.floor(this.body.clientHeight / height()) - 2);
-    const places = { ArrowDown: at + 1, ArrowUp: at < 0 ? 0 : at - 1, PageDown: at + page, PageUp: at - page, Home: 0, End: this.items.length - 1, Enter: at };
+    const last = this.items.length - 1;
+    const places = { ArrowDown: at + 1, ArrowUp: at - 1, PageDown: at + page, PageUp: at - page, Home: 0, End: last, Enter: at };
     if (!(event.key in places)) return;
     event.preventDefault();
     this.go(places[event.key], event.key === "Enter" ? "key" : null);
