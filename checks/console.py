@@ -375,6 +375,17 @@ def try_log(front, page):
     page.click("#tab-list")
 
 
+def try_source(top):
+    """The page's files read no markup, keep nothing, and load nothing from elsewhere."""
+    words = ("innerHTML", "outerHTML", "insertAdjacentHTML", "document.write", "eval(", "Function(", "Storage", "cookie", "indexedDB", "style=", "onclick=")
+    folder = os.path.join(top, "console")
+    for name in sorted(os.listdir(folder)):
+        with open(os.path.join(folder, name)) as source:
+            content = source.read().replace("http://www.w3.org/2000/svg", "")
+        found = [word for word in (*words, "http:", "https:") if word in content]
+        wants(name.endswith(".md") or not found, f"{name} has {found}")
+
+
 FILTERS = [
     ("severity", ".tile[data-severity=major]", lambda alarm: alarm["perceived-severity"] == "major"),
     ("cleared", "[name=cleared][value=cleared]", lambda alarm: alarm["is-cleared"]),
@@ -529,6 +540,24 @@ def try_shelf(front, page):
     until(lambda: not shelved(front), "the shelf is taken away")
     until(lambda: page.text("count-shelf") == "0" and page.text("count-list") == str(before), "the page has it on the list again")
     page.click("#tab-list")
+
+
+MATCHED = [
+    "/ex:rack/slot[name='3']/port", "1.3.6.1.4", "/no path", "a\\b", "[x]-^y", "(a|b)*+?.{2}", "Größe 7", "tab\tand\nline", "x" * 300, "<b>&'\"", "plain",
+]
+
+
+def try_matches(front, served, page):
+    """The shelf that the page makes of an alarm takes that one alone, whatever its resource is."""
+    path = b"/restconf/data/ietf-alarms:alarms/control/alarm-shelving"
+    served.tell(*(reported(resource, "hw:fan", "warning", "turns slowly") for resource in MATCHED))
+    script = "const [alarm, end] = arguments; import('/shelve.js').then(({ shelfOf }) => end(shelfOf(alarm, 'one')))"
+    for resource in MATCHED:
+        shelf = page.driver.execute_async_script(script, alarm_at(front, resource))
+        served.tell(sent(b"POST", path, json.dumps({"ietf-alarms:shelf": [shelf]}).encode()))
+        taken = [alarm["resource"] for alarm in shelved(front)]
+        wants(taken == [resource], "a shelf takes other alarms than its own", f"{shelf}\n{taken}")
+        served.tell(sent(b"DELETE", path + b"/shelf=one"))
 
 
 def try_purge(front, page):
@@ -693,6 +722,7 @@ def try_looks(page):
 
 
 def main(program, top, work, picture=None):
+    try_source(top)
     front = Front(top, work)
     journal = os.path.join(work, "night.journal")
     journal_of(journal, 1 << 20, night_events(int(time.time() * 1000) - 5000))
@@ -712,6 +742,7 @@ def main(program, top, work, picture=None):
     page.is_quiet("with nothing refused")
     try_shelf(front, page)
     page.messages()  # the refusal that was wanted
+    try_matches(front, served, page)
     try_purge(front, page)
     try_harm(front, served, page)
     page.is_quiet("with harmful texts")
