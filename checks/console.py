@@ -183,9 +183,9 @@ def try_detail(front, page):
     page.press(Keys.ESCAPE)
 
 
-def requests_of(front):
-    with open(os.path.join(front.folder, "access.log")) as log:
-        return [line.split('"')[1] for line in log if " 200 " in line or " 204 " in line or " 201 " in line]
+def asked_since(page):
+    """The addresses that the page has asked since it was last looked."""
+    return page.js("const all = performance.getEntriesByType('resource').map(({ name }) => name); performance.clearResourceTimings(); return all")
 
 
 def last_place(served):
@@ -197,22 +197,22 @@ def last_place(served):
 
 def try_following(front, served, page):
     """What is asked while nothing changes, and when one alarm does; the log grows, and those who listen hear of it."""
-    before = len(requests_of(front))
+    asked_since(page)
     time.sleep(5)
-    idle = requests_of(front)[before:]
+    idle = asked_since(page)
     wants(1 <= len(idle) <= 4 and all("notification-log?from=" in line for line in idle), "other requests while nothing changes", idle)
-    before = len(requests_of(front))
     alarm = ("core9/slot1/port1", "net:link-down")
     served.tell(reported(*alarm, "critical", "no carrier at all"))
     until(lambda: "core9/slot1/port1" in page.text("list"), "a new alarm is on the page", 5)
-    asked = requests_of(front)[before:]
-    whole = [line for line in asked if line.startswith("GET /restconf/data/ietf-alarms:alarms/alarm-list ")]
-    wants(not whole, "the whole list is fetched for one alarm", asked)
+    asked = asked_since(page)
+    alone = [line for line in asked if line.endswith("/alarm=core9%2Fslot1%2Fport1,net%3Alink-down,")]
+    whole = [line for line in asked if line.endswith("/alarm-list")]
+    wants(len(alone) == 1 and not whole, "another request than for the one alarm", asked)
     until(lambda: "critical, core9/slot1/port1, no carrier at all" in page.text("live"), "the alarm is said")
     wants(is_list(page, listed(front)), "the list is another behind one change")
     rule = b"/restconf/data/ietf-alarms:alarms/control/notify-status-changes"
     served.tell(sent(b"PUT", rule, b'{"ietf-alarms:notify-status-changes":"raise-and-clear"}'),
-                reported(*alarm, "major", "less than it seemed"), reported(*alarm, "critical", "no carrier at all"))
+                reported(*alarm, "major", "less than it seemed"), reported(*alarm, "critical", "no carrier on any lane"))
     until(lambda: f"after {last_place(served)} changes" in page.text("state"), "changes that send nothing are seen", 5)
     wants(is_list(page, listed(front)), "the list is another behind changes that send nothing")
     served.tell(sent(b"PUT", rule, b'{"ietf-alarms:notify-status-changes":"all-state-changes"}'))
@@ -399,14 +399,19 @@ FILTER = """
   requestAnimationFrame(() => requestAnimationFrame(shown));"""
 
 
-def try_many(front, served, page):
-    """Times of the first list, of filters (the least of three), and of frames while it scrolls; the page follows to all of them."""
-    until(lambda: page.text("count-list") == str(ALARMS), "all alarms are followed", 30)
+def first_list(page):
+    """How many seconds it takes from the address to the list."""
     page.driver.get("about:blank")
     begin = time.monotonic()
     page.driver.get(page.address)
     until(lambda: page.text("shown-list") == f"{ALARMS} of {ALARMS} alarms", "the list is there", 20)
-    first = time.monotonic() - begin
+    return time.monotonic() - begin
+
+
+def try_many(front, served, page):
+    """Times of the first list and of filters, each the least of three, and of frames while it scrolls."""
+    until(lambda: page.text("count-list") == str(ALARMS), "all alarms are followed", 30)
+    first = min(first_list(page) for _ in range(3))
     until(lambda: "Up to date" in page.text("state"), "the log is there too", 20)
     frames, most, top = page.driver.execute_async_script(SCROLL)
     wants(top > 100_000 and most < 100, "the list doesn't scroll, or has too many elements", f"{top} {most}")
