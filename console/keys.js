@@ -84,7 +84,10 @@ function press(event, closeDetail) {
     openTab("list");
     byId("filter-text").focus();
   } else if (event.key === "?") showKeys();
-  else if (["1", "2", "3"].includes(event.key)) openTab(TABS[event.key - 1]);
+  else if (["1", "2", "3"].includes(event.key)) {
+    openTab(TABS[event.key - 1]);
+    goToTable();
+  }
 }
 
 export function listenToKeys(closeDetail) {
