@@ -384,6 +384,7 @@ def fill(served):
 SCROLL = """
   const body = document.querySelector("#list .body"), end = arguments[0], frames = [];
   let last = performance.now(), most = 0;
+  body.scrollTop = 0;
   const step = (time) => {
     frames.push(time - last); last = time;
     most = Math.max(most, document.querySelectorAll("#list .row").length);
@@ -408,13 +409,30 @@ def first_list(page):
     return time.monotonic() - begin
 
 
-def try_many(front, served, page):
-    """Times of the first list and of filters, each the least of three, and of frames while it scrolls."""
-    until(lambda: page.text("count-list") == str(ALARMS), "all alarms are followed", 30)
-    first = min(first_list(page) for _ in range(3))
-    until(lambda: "Up to date" in page.text("state"), "the log is there too", 20)
+def scrolled(page):
+    """The frame in the middle and the longest one, in milliseconds, while the list scrolls; and how many rows are elements."""
     frames, most, top = page.driver.execute_async_script(SCROLL)
     wants(top > 100_000 and most < 100, "the list doesn't scroll, or has too many elements", f"{top} {most}")
+    return [frames[len(frames) // 2], frames[-1], most]
+
+
+def least(measure, enough):
+    """The least of five measures, or the first that is enough."""
+    found = measure()
+    for _ in range(4):
+        if found < enough:
+            break
+        time.sleep(1)
+        found = min(found, measure())
+    return found
+
+
+def try_many(front, served, page):
+    """Times of the first list, of frames while it scrolls, and of filters: each the least of some, since others may use the machine."""
+    until(lambda: page.text("count-list") == str(ALARMS), "all alarms are followed", 30)
+    first = least(lambda: first_list(page), 2)
+    until(lambda: "Up to date" in page.text("state"), "the log is there too", 20)
+    middle, worst, most = least(lambda: scrolled(page), [50])
     times = []
     for word, count in (("port/00007", 1), ("slot/3", ALARMS // 8), ("0", ALARMS)):
         tries = []
@@ -424,7 +442,6 @@ def try_many(front, served, page):
             wants(shown == f"{count} of {ALARMS} alarms", "the filter lets others through", shown)
             tries.append(spent)
         times.append(min(tries))
-    middle, worst = frames[len(frames) // 2], frames[-1]
     filters = ", ".join(f"{each:.0f}" for each in times)
     told = f"first list {first:.2f} s; filters {filters} ms; frames {middle:.0f} ms in the middle, {worst:.0f} at worst"
     print(f"console: {ALARMS} alarms: {told}; {most} rows are elements")
