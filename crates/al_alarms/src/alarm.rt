@@ -1,3 +1,4 @@
+ghost use Rattle.al_base.specs.Limits.{most_operator_entries};
 ghost use Rattle.std.specs.Option.{option_copied, option_map, option_to_list};
 ghost use Rattle.std.specs.Prelude.{◌≡◌, ◌<◌, ◌∷◌, [], IfOk, IfSome, OnOk, Some, cond, length, slice_get};
 ghost use Rattle.al_base.specs.declared.operator.OperatorState.{OperatorState};
@@ -5,10 +6,12 @@ ghost use Rattle.al_base.specs.declared.operator.OperatorState.TheVariants.{Clos
 ghost use Rattle.al_base.specs.declared.text.Text.{Text};
 ghost use Rattle.al_ids.specs.Keys.{key_cmp};
 ghost use Rattle.al_select.specs.Filters.{purge_takes, same_state};
-ghost use Rattle.al_model.specs.Alarms.{bounded, facts_of, newest, reported, says_more, status_of, with_operator};
+ghost use Rattle.al_model.specs.Alarms.{bounded, facts_of, reported, says_more, status_of, with_operator};
+ghost use Rattle.al_record.specs.Histories.{newest};
 ghost use Rattle.al_model.specs.Summary.{is_closed};
 ghost use Rattle.al_alarms.specs.Views.{first_state, goes, is_at, is_marked, loses, mark_of, marked, newest_said, with_max};
 
+use al_base::limits::MOST_OPERATOR_ENTRIES;
 use al_base::{Copied, OperatorState, Severity, Stamp, Status, Text};
 use al_ids::AlarmKey;
 use al_model::{OperatorEntry, Side, StatusEntry};
@@ -33,8 +36,9 @@ pub struct Alarm {
 }
 
 impl Model for Alarm {
-    ghost use Rattle.std.specs.Prelude.{◌≡◌, Some};
     ghost use Rattle.al_alarms.specs.Views.{AlarmView};
+    ghost use Rattle.al_base.specs.Limits.{most_operator_entries};
+    ghost use Rattle.std.specs.Prelude.{◌≡◌, Some};
 
     ghost Value = { AlarmView };
 
@@ -55,11 +59,8 @@ impl Model for Alarm {
       operator_room = a.operators.spare;
     } };
 
-    ghost invariant = { λ a. a.operators.bound ≡ Some 64 };
+    ghost invariant = { λ a. a.operators.bound ≡ Some most_operator_entries };
 }
-
-/// How many operator entries an alarm keeps.
-const MAX_OPERATOR_ENTRIES: usize = 64;
 
 impl Alarm {
     /// The alarm that a report makes at the time. It keeps so many status entries, or all. `shelving` is the operator entry that puts it
@@ -74,7 +75,8 @@ impl Alarm {
         shelving: Option<OperatorEntry>,
     ) -> Result<Alarm, AllocError>
         requires { IfSome max (λ most. 0 < most) }
-        ensures state { IfOk result (λ alarm. alarm.state ≡ first_state time key severity text shelving) }
+        ensures state { IfOk result (λ alarm.
+            alarm.state ≡ first_state time key severity text shelving) }
         ensures max { IfOk result (λ alarm. alarm.max ≡ max) }
     {
         let entry = StatusEntry {
@@ -405,9 +407,10 @@ fn first_operators(
     alloc: Global,
     shelving: Option<OperatorEntry>,
 ) -> Result<History<OperatorEntry>, AllocError>
-    ensures { IfOk result (λ operators. (operators.items ≡ option_to_list shelving) × (operators.bound ≡ Some 64)) }
+    ensures { IfOk result (λ operators. (operators.items ≡ option_to_list shelving)
+        × (operators.bound ≡ Some most_operator_entries)) }
 {
-    let mut operators = History::new(alloc, Some(MAX_OPERATOR_ENTRIES));
+    let mut operators = History::new(alloc, Some(MOST_OPERATOR_ENTRIES));
     match shelving {
         Some(entry) => {
             operators.reserve()?;
@@ -420,7 +423,8 @@ fn first_operators(
 
 /// The state and the operator of an entry.
 fn newest_of(entry: Option<&OperatorEntry>) -> Option<(OperatorState, &Text)>
-    ensures { option_map (λ n. (let said : OperatorState × Text = (n.0, n.1.now) in said)) result ≡ newest_said (option_copied entry.entry) }
+    ensures { option_map (λ n. (let said : OperatorState × Text = (n.0, n.1.now) in said)) result
+        ≡ newest_said (option_copied entry.entry) }
 {
     match entry {
         Some(entry) => Some((entry.state, &entry.operator)),

@@ -64,7 +64,8 @@ impl Model for Contents {
         shelf_time = c.shelf_time;
       };
       alarms = c.alarms.items;
-      room = min (vec_capacity c.alarms) (min (vec_capacity c.listed) (vec_capacity c.shelved)) - vec_len c.alarms;
+      room = min (vec_capacity c.alarms) (min (vec_capacity c.listed) (vec_capacity c.shelved))
+          - vec_len c.alarms;
     } };
 
     ghost invariant = { λ c. AreSides c.alarms.items c.listed.items c.shelved.items
@@ -156,7 +157,8 @@ impl Contents {
     /// The alarm of the key, on either side.
     pub fn find(&self, key: &AlarmKey) -> Option<&Alarm>
         requires { IsInOrder self.now.state.alarms }
-        ensures { option_map (λ v. v.state) (option_copied result) ≡ alarm_of key.now self.now.state.alarms }
+        ensures { option_map (λ v. v.state) (option_copied result)
+            ≡ alarm_of key.now self.now.state.alarms }
     {
         find(self.alarms.as_slice(), key)
     }
@@ -179,7 +181,8 @@ impl Contents {
 
     /// The alarm of the list at this place of it.
     pub fn listed_at(&self, i: usize) -> Option<&Alarm>
-        ensures { option_map (λ v. v.state) (option_copied result) ≡ slice_get (kept is_unmarked self.now.state.alarms) i }
+        ensures { option_map (λ v. v.state) (option_copied result)
+            ≡ slice_get (kept is_unmarked self.now.state.alarms) i }
     {
         let alarms = self.alarms.as_slice();
         let places = self.listed.as_slice();
@@ -188,7 +191,8 @@ impl Contents {
 
     /// The alarm on a shelf at this place among those on shelves.
     pub fn shelved_at(&self, i: usize) -> Option<&Alarm>
-        ensures { option_map (λ v. v.state) (option_copied result) ≡ slice_get (kept is_marked self.now.state.alarms) i }
+        ensures { option_map (λ v. v.state) (option_copied result)
+            ≡ slice_get (kept is_marked self.now.state.alarms) i }
     {
         let alarms = self.alarms.as_slice();
         let places = self.shelved.as_slice();
@@ -277,14 +281,17 @@ impl Contents {
     fn report(&mut self, place: usize, time: Stamp, status: Status, text: Text, entry_text: Text)
         requires room { HasAlarm self.old.alarms place (λ v. 0 < v.status_room) }
         requires same_text { entry_text ≡ text }
-        ensures { self.new.state ≡ record self.old.state { alarms = at_place place (reported self.old.state.max time status text) self.old.state.alarms } }
+        ensures { self.new.state ≡ record self.old.state
+            { alarms = at_place place (reported self.old.state.max time status text)
+            self.old.state.alarms } }
     {
         report_at(&mut self.alarms, place, time, status, text, entry_text);
     }
 
     fn insert(&mut self, place: usize, alarm: Alarm)
         requires { HasPlace self.old place alarm }
-        ensures { self.new.state ≡ record self.old.state { alarms = insert self.old.state.alarms place alarm.state } }
+        ensures { self.new.state ≡ record self.old.state
+            { alarms = insert self.old.state.alarms place alarm.state } }
     {
         put_in_place(&alarm, place, &mut self.listed, &mut self.shelved);
         // There is room for it, so no memory is taken.
@@ -295,13 +302,15 @@ impl Contents {
         requires room { HasAlarm self.old.alarms place (λ v. 0 < v.operator_room) }
         requires listed { IsListedAt self.old.state.alarms place }
         requires stays { marked entry.state entry.text ≡ None }
-        ensures { self.new.state ≡ record self.old.state { alarms = at_place place (with_operator (Some entry)) self.old.state.alarms } }
+        ensures { self.new.state ≡ record self.old.state
+            { alarms = at_place place (with_operator (Some entry)) self.old.state.alarms } }
     {
         operate_at(&mut self.alarms, place, entry);
     }
 
     fn set_max(&mut self, max: Option<u16>)
-        ensures { self.new.state ≡ record self.old.state { max = max; alarms = map (bounded max) self.old.state.alarms } }
+        ensures { self.new.state ≡ record self.old.state { max = max;
+            alarms = map (bounded max) self.old.state.alarms } }
     {
         self.max = max;
         set_max(&mut self.alarms, max);
@@ -315,7 +324,8 @@ impl Contents {
 
     fn set_shelves(&mut self, shelves: Shelves, moves: Vec<Option<OperatorEntry>>)
         requires { HaveRoom moves.items self.old.alarms }
-        ensures { self.new.state ≡ record self.old.state { shelves = shelves.shelves; alarms = after_moves moves.items self.old.state.alarms } }
+        ensures { self.new.state ≡ record self.old.state { shelves = shelves.shelves;
+            alarms = after_moves moves.items self.old.state.alarms } }
     {
         self.shelves = shelves;
         apply_moves(&mut self.alarms, moves);
@@ -324,7 +334,8 @@ impl Contents {
 
     fn set_inventory(&mut self, inventory: Inventory, moves: Vec<Option<OperatorEntry>>)
         requires { HaveRoom moves.items self.old.alarms }
-        ensures { self.new.state ≡ record self.old.state { inventory = Some inventory; alarms = after_moves moves.items self.old.state.alarms } }
+        ensures { self.new.state ≡ record self.old.state { inventory = Some inventory;
+            alarms = after_moves moves.items self.old.state.alarms } }
     {
         self.inventory = Some(inventory);
         apply_moves(&mut self.alarms, moves);
@@ -332,14 +343,16 @@ impl Contents {
     }
 
     fn purge(&mut self, side: Side, filter: PurgeFilter, time: Stamp)
-        ensures { self.new.state ≡ record self.old.state { alarms = kept (λ a. not (goes side filter time a)) self.old.state.alarms } }
+        ensures { self.new.state ≡ record self.old.state
+            { alarms = kept (λ a. not (goes side filter time a)) self.old.state.alarms } }
     {
         purge(&mut self.alarms, side, &filter, time.ms());
         set_sides(self.alarms.as_slice(), &mut self.listed, &mut self.shelved);
     }
 
     fn compress(&mut self, side: Side, filter: CompressFilter)
-        ensures { self.new.state ≡ record self.old.state { alarms = map (compressed side filter) self.old.state.alarms } }
+        ensures { self.new.state ≡ record self.old.state
+            { alarms = map (compressed side filter) self.old.state.alarms } }
     {
         compress(&mut self.alarms, side, &filter);
     }

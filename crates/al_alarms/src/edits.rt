@@ -74,7 +74,8 @@ pub(crate) fn report_at(
 )
     requires room { HasAlarm alarms.old.items place (λ v. 0 < v.status_room) }
     requires same_text { entry_text ≡ text }
-    ensures change { ChangesAt (λ max. reported max time status text) place alarms.old.items alarms.new.items }
+    ensures change { ChangesAt (λ max.
+        reported max time status text) place alarms.old.items alarms.new.items }
     ensures capacity { vec_capacity alarms.new ≡ vec_capacity alarms.old }
     ensures len { vec_len alarms.new ≡ vec_len alarms.old }
 {
@@ -84,7 +85,8 @@ pub(crate) fn report_at(
 /// Adds an operator entry to the alarm at the place.
 pub(crate) fn operate_at(alarms: &mut Vec<Alarm>, place: usize, entry: OperatorEntry)
     requires { HasAlarm alarms.old.items place (λ v. 0 < v.operator_room) }
-    ensures change { ChangesAt (λ max. with_operator (Some entry)) place alarms.old.items alarms.new.items }
+    ensures change { ChangesAt (λ max.
+        with_operator (Some entry)) place alarms.old.items alarms.new.items }
     ensures capacity { vec_capacity alarms.new ≡ vec_capacity alarms.old }
     ensures len { vec_len alarms.new ≡ vec_len alarms.old }
 {
@@ -123,7 +125,8 @@ fn compress_one(alarm: &mut Alarm, side: Side, filter: &CompressFilter)
 
 /// Removes the alarms of the side that the filter takes at the time, in milliseconds since 1970.
 pub(crate) fn purge(alarms: &mut Vec<Alarm>, side: Side, filter: &PurgeFilter, time: u64)
-    ensures items { alarms.new.items ≡ kept (λ v. not (goes side filter.now time v.state)) alarms.old.items }
+    ensures items { alarms.new.items
+        ≡ kept (λ v. not (goes side filter.now time v.state)) alarms.old.items }
     ensures capacity { vec_capacity alarms.new ≡ vec_capacity alarms.old }
     ensures len { vec_len alarms.new ≤ vec_len alarms.old }
 {

@@ -22,7 +22,8 @@ pub(crate) fn position_of(alarms: &[Alarm], key: &AlarmKey) -> Result<usize, usi
 /// The alarm of the key.
 pub(crate) fn find<'a>(alarms: &'a [Alarm], key: &AlarmKey) -> Option<&'a Alarm>
     requires { IsInOrder (states alarms.now) }
-    ensures { option_map (λ v. v.state) (option_copied result) ≡ alarm_of key.now (states alarms.now) }
+    ensures { option_map (λ v. v.state) (option_copied result)
+        ≡ alarm_of key.now (states alarms.now) }
 {
     match position_of(alarms, key) {
         Ok(place) => at(alarms, place),
@@ -32,7 +33,8 @@ pub(crate) fn find<'a>(alarms: &'a [Alarm], key: &AlarmKey) -> Option<&'a Alarm>
 
 /// The alarm at the place that stands at this one of the places.
 pub(crate) fn at_side<'a>(alarms: &'a [Alarm], places: &[usize], i: usize) -> Option<&'a Alarm>
-    ensures { option_copied result ≡ option_and_then (slice_get alarms.now) (slice_get places.now i) }
+    ensures { option_copied result
+        ≡ option_and_then (slice_get alarms.now) (slice_get places.now i) }
 {
     match place_at(places, i) {
         Some(place) => at(alarms, place),
@@ -54,7 +56,9 @@ fn place_at(places: &[usize], i: usize) -> Option<usize>
 
 /// The alarm, if it is on this side.
 pub fn if_at(found: Option<&Alarm>, side: Side) -> Option<&Alarm>
-    ensures { option_copied result ≡ option_and_then (λ v. cond (is_at side v.state) (Some v) None) (option_copied found.entry) }
+    ensures { option_copied result
+        ≡ option_and_then (λ v.
+        cond (is_at side v.state) (Some v) None) (option_copied found.entry) }
 {
     match found {
         Some(alarm) => if_one_at(alarm, side),
@@ -72,8 +76,10 @@ fn if_one_at(alarm: &Alarm, side: Side) -> Option<&Alarm>
 fn put_place(alarm: &Alarm, place: usize, listed: &mut Vec<usize>, shelved: &mut Vec<usize>)
     requires listed { vec_len listed.old < vec_capacity listed.old }
     requires shelved { vec_len shelved.old < vec_capacity shelved.old }
-    ensures listed { listed.new.items ≡ listed.old.items ++ cond (is_unmarked alarm.now.state) (place ∷ []) [] }
-    ensures shelved { shelved.new.items ≡ shelved.old.items ++ cond (is_marked alarm.now.state) (place ∷ []) [] }
+    ensures listed { listed.new.items
+        ≡ listed.old.items ++ cond (is_unmarked alarm.now.state) (place ∷ []) [] }
+    ensures shelved { shelved.new.items
+        ≡ shelved.old.items ++ cond (is_marked alarm.now.state) (place ∷ []) [] }
     ensures listed_count { vec_len listed.new ≤ vec_len listed.old + 1 }
     ensures shelved_count { vec_len shelved.new ≤ vec_len shelved.old + 1 }
     ensures listed_room { vec_capacity listed.new ≡ vec_capacity listed.old }
@@ -117,7 +123,8 @@ fn move_up(places: &mut [usize])
 fn move_up_from(places: &mut Vec<usize>, at: usize)
     requires at { at ≤ vec_len places.old }
     requires small { AllByRecursion (λ i. i + 1 < 2 ^ 64) places.old.items }
-    ensures items { places.new.items ≡ take at places.old.items ++ map suc (drop at places.old.items) }
+    ensures items { places.new.items
+        ≡ take at places.old.items ++ map suc (drop at places.old.items) }
     ensures len { vec_len places.new ≡ vec_len places.old }
     ensures room { vec_capacity places.new ≡ vec_capacity places.old }
 {
@@ -128,7 +135,8 @@ fn move_up_from(places: &mut Vec<usize>, at: usize)
 fn put_in(places: &mut Vec<usize>, place: usize, is_here: bool)
     requires room { vec_len places.old < vec_capacity places.old }
     requires small { AllByRecursion (λ i. i + 1 < 2 ^ 64) places.old.items }
-    ensures items { (before after : List ℕ) → AreParted place places.old.items before after → places.new.items ≡ before ++ (cond is_here (place ∷ []) [] ++ map suc after) }
+    ensures items { (before after : List ℕ) → AreParted place places.old.items before after
+        → places.new.items ≡ before ++ (cond is_here (place ∷ []) [] ++ map suc after) }
     ensures room { vec_capacity places.new ≡ vec_capacity places.old }
 {
     let at = places.as_slice().partition_point(|other| *other < place);
@@ -150,7 +158,9 @@ pub(crate) fn put_in_place(
     requires shelved { vec_len shelved.old < vec_capacity shelved.old }
     requires listed_small { AllByRecursion (λ i. i + 1 < 2 ^ 64) listed.old.items }
     requires shelved_small { AllByRecursion (λ i. i + 1 < 2 ^ 64) shelved.old.items }
-    ensures sides { (alarms : List AlarmView) → place ≤ length alarms → AreSides alarms listed.old.items shelved.old.items → AreSides (insert alarms place alarm.now) listed.new.items shelved.new.items }
+    ensures sides { (alarms : List AlarmView) → place ≤ length alarms
+        → AreSides alarms listed.old.items shelved.old.items
+        → AreSides (insert alarms place alarm.now) listed.new.items shelved.new.items }
     ensures listed_room { vec_capacity listed.new ≡ vec_capacity listed.old }
     ensures shelved_room { vec_capacity shelved.new ≡ vec_capacity shelved.old }
 {

@@ -1,7 +1,13 @@
+pub mod Answers
+pub mod Cuts
+pub mod Forms
 pub mod Identifiers
 pub mod Limits
 pub mod Memory
 pub mod Names
+pub mod Operators
 pub mod Outside
 pub mod Readings
+pub mod Repeats
+pub mod Texts
 pub mod Times

@@ -84,6 +84,10 @@ first_status_changes = 32
 abbrev pub IsStatusChanges : ℕ → Type 0
 IsStatusChanges most = (1 ≤ most) × (most ≤ most_status_changes)
 
+-- how many of a unit of time an age may have that a filter asks for
+abbrev pub most_age_units : ℕ
+most_age_units = 65535
+
 -- a set of severities: bit n is that of the n-th, and bit 0 that of indeterminate
 abbrev pub IsSeveritySet : ℕ → Type 0
 IsSeveritySet set = set ≤ 31
@@ -147,9 +151,15 @@ age_units = 1000 ∷ 60000 ∷ 3600000 ∷ 86400000 ∷ 604800000 ∷ []
 pub record IsAge (age : ℕ) : Type 0 where
   pub count : ℕ
   pub unit : ℕ
-  pub few : count ≤ 65535
+  pub few : count ≤ most_age_units
   pub known : Contains age_units unit
   pub is : age ≡ count * unit
 
 unfoldable pub is_age : ℕ → Bool
-is_age age = list_any (λ unit. (age % unit == 0) && nat_le (age / unit) 65535) age_units
+is_age age = list_any (λ unit. (age % unit == 0) && nat_le (age / unit) most_age_units) age_units
+
+abbrev pub is_stamp : ℕ → Bool
+is_stamp ms = nat_le ms last_stamp
+
+abbrev pub is_severity_set : ℕ → Bool
+is_severity_set set = nat_le set 31

@@ -56,7 +56,8 @@ impl EventType {
 
     /// The event type of this name, if there is one.
     pub fn read(name: &[u8]) -> Option<EventType>
-        ensures { (event_type : EventType) → (result ≡ Some event_type) ↔ (name.now ≡ event_type_name event_type) }
+        ensures { (event_type : EventType) → (result ≡ Some event_type)
+            ↔ (name.now ≡ event_type_name event_type) }
     {
         for event_type in &EventType::ALL {
             if event_type.name().as_bytes() == name {

@@ -7,8 +7,10 @@ ghost use Rattle.std.specs.Prelude.{ℕ, List};
 
 /// Each test holds exactly where its relation does.
 pub fn forms_are_tested()
-    ensures texts { (least most : ℕ) (text : List ℕ) → Decides (is_text least most text) (IsText least most text) }
+    ensures texts { (least most : ℕ) (text : List ℕ)
+        → Decides (is_text least most text) (IsText least most text) }
     ensures type_names { (text : List ℕ) → Decides (is_type_name text) (IsTypeName text) }
-    ensures operator_names { (name : List ℕ) → Decides (is_operator_name name) (IsOperatorName name) }
+    ensures operator_names { (name : List ℕ)
+        → Decides (is_operator_name name) (IsOperatorName name) }
     ensures ages { (age : ℕ) → Decides (is_age age) (IsAge age) }
 {}

@@ -56,7 +56,8 @@ impl<T: PartialEq> PartialEq for List<T> {
         ensures value { result ≡ pointwise T.eq self.now other.now }
 
         // where the items' equality is exact, so is that of lists
-        ensures exact { ((a b : T) → Decides (T.eq a b) (a ≡ b)) → Decides result (self.now ≡ other.now) }
+        ensures exact { ((a b : T) → Decides (T.eq a b) (a ≡ b))
+            → Decides result (self.now ≡ other.now) }
     {
         self.as_slice() == other.as_slice()
     }

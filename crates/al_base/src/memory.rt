@@ -85,7 +85,11 @@ impl Model for MemSource {
 
     ghost Value = { SourceView };
 
-    ghost view = { λ s. record { left = drop s.next s.bytes.items; pieces = s.pieces.items; plan = s.plan } };
+    ghost view = { λ s. record {
+      left = drop s.next s.bytes.items;
+      pieces = s.pieces.items;
+      plan = s.plan;
+    } };
 
     ghost invariant = { λ s. (s.next ≤ vec_len s.bytes) × All (λ piece. 0 < piece) s.pieces.items };
 }
@@ -99,7 +103,12 @@ impl MemSource {
         fails: &[u64],
     ) -> Result<MemSource, AllocError>
         requires { All (λ piece. 0 < piece) pieces.now }
-        ensures { IfOk result (λ source. source ≡ record { left = bytes.now; pieces = pieces.now; plan = record { fails = fails.now; calls = 0; faults = 0 } }) }
+        ensures { IfOk result (λ source.
+            source ≡ record {
+              left = bytes.now;
+              pieces = pieces.now;
+              plan = record { fails = fails.now; calls = 0; faults = 0 };
+            }) }
     {
         Ok(MemSource {
             bytes: Vec::from_slice(alloc, bytes)?,
@@ -118,7 +127,8 @@ impl Source for MemSource {
     fn read(&mut self, buf: &mut [u8]) -> Result<usize, ReadFault>
         requires { 0 < length buf.old }
         ensures within { IfOk result (λ count. count ≤ length buf.new) }
-        ensures gave { IfOk result (λ count. Consumes (Some self.old.left) (Some self.new.left) (take count buf.new)) }
+        ensures gave { IfOk result (λ count.
+            Consumes (Some self.old.left) (Some self.new.left) (take count buf.new)) }
         ensures end { IfOk result (λ count. TellsEnd (Some self.old.left) count) }
         ensures fault { OnErr result (Keeps (Some self.old.left) (Some self.new.left)) }
         ensures later { self.old.plan.faults ≤ self.new.plan.faults }
@@ -189,7 +199,12 @@ impl Model for MemSink {
 impl MemSink {
     /// An empty sink with room for so many bytes. Its calls fail whose number is in `fails`, and those that find no room left.
     pub fn new(alloc: Global, room: usize, fails: &[u64]) -> Result<MemSink, AllocError>
-        ensures { IfOk result (λ sink. sink ≡ record { held = []; room = room; plan = record { fails = fails.now; calls = 0; faults = 0 } }) }
+        ensures { IfOk result (λ sink.
+            sink ≡ record {
+              held = [];
+              room = room;
+              plan = record { fails = fails.now; calls = 0; faults = 0 };
+            }) }
     {
         Ok(MemSink {
             bytes: Vec::with_capacity(alloc, room)?,
@@ -245,7 +260,8 @@ impl Sink for MemSink {
         requires { 0 < length bytes.now }
         ensures some { IfOk result (λ count. 0 < count) }
         ensures within { IfOk result (λ count. count ≤ length bytes.now) }
-        ensures took { IfOk result (λ count. Appends (Some self.old.held) (Some self.new.held) (take count bytes.now)) }
+        ensures took { IfOk result (λ count.
+            Appends (Some self.old.held) (Some self.new.held) (take count bytes.now)) }
         ensures fault { OnErr result (Keeps (Some self.old.held) (Some self.new.held)) }
         ensures later { self.old.plan.faults ≤ self.new.plan.faults }
         ensures cause { OnErr result (Rose self.old.plan.faults self.new.plan.faults) }

@@ -48,7 +48,8 @@ pub trait Source: Drop {
     fn read(&mut self, buf: &mut [u8]) -> Result<usize, ReadFault>
         requires { 0 < length buf.old }
         ensures within { IfOk result (λ count. count ≤ length buf.new) }
-        ensures gave { IfOk result (λ count. Consumes (left self.old) (left self.new) (take count buf.new)) }
+        ensures gave { IfOk result (λ count.
+            Consumes (left self.old) (left self.new) (take count buf.new)) }
         ensures end { IfOk result (λ count. TellsEnd (left self.old) count) }
         ensures fault { OnErr result (Keeps (left self.old) (left self.new)) }
         ensures later { faults self.old ≤ faults self.new }
@@ -68,7 +69,8 @@ pub trait Sink: Drop {
         requires { 0 < length bytes.now }
         ensures some { IfOk result (λ count. 0 < count) }
         ensures within { IfOk result (λ count. count ≤ length bytes.now) }
-        ensures took { IfOk result (λ count. Appends (held self.old) (held self.new) (take count bytes.now)) }
+        ensures took { IfOk result (λ count.
+            Appends (held self.old) (held self.new) (take count bytes.now)) }
         ensures fault { OnErr result (Keeps (held self.old) (held self.new)) }
         ensures later { faults self.old ≤ faults self.new }
         ensures cause { OnErr result (Rose (faults self.old) (faults self.new)) };

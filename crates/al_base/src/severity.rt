@@ -1,4 +1,4 @@
-ghost use Rattle.std.specs.Prelude.{◌≡◌, ◌≤◌, ◌↔◌, IsTrue};
+ghost use Rattle.std.specs.Prelude.{◌≡◌, ◌↔◌};
 
 /// How grave an alarm is (RFC 8632, type `severity`), from the least to the gravest.
 #[derive(Clone, Copy, Debug, PartialEq, Eq, PartialOrd, Ord)]
@@ -29,12 +29,6 @@ impl Severity {
         self as u8
     }
 
-    pub fn is_at_least(self, level: Severity) -> bool
-        ensures { IsTrue result ↔ (rank_of level ≤ rank_of self) }
-    {
-        self >= level
-    }
-
     /// The word that stands for the severity in messages.
     pub fn name(self) -> &'static str
         ensures { result.now ≡ severity_name self }
@@ -50,7 +44,8 @@ impl Severity {
 
     /// The severity of this name, if there is one.
     pub fn read(name: &[u8]) -> Option<Severity>
-        ensures { (severity : Severity) → (result ≡ Some severity) ↔ (name.now ≡ severity_name severity) }
+        ensures { (severity : Severity) → (result ≡ Some severity)
+            ↔ (name.now ≡ severity_name severity) }
     {
         for severity in &Severity::ALL {
             if severity.name().as_bytes() == name {

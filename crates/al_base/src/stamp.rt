@@ -35,7 +35,7 @@ impl Stamp {
     pub fn of(ms: u64) -> Option<Stamp>
         ensures { SomeIff result (ms ≤ last_stamp) ms }
     {
-        if ms <= 253_402_300_799_999 {
+        if ms <= Stamp::LAST.ms {
             Some(Stamp { ms })
         } else {
             None
@@ -88,7 +88,8 @@ impl Stamp {
 
     /// The stamp of a text that `print` writes, None of any other.
     pub fn read(bytes: &[u8]) -> Option<Stamp>
-        ensures { (ms : ℕ) → (result ≡ Some ms) ↔ ((ms ≤ last_stamp) × (bytes.now ≡ stamp_text ms)) }
+        ensures { (ms : ℕ) → (result ≡ Some ms)
+            ↔ ((ms ≤ last_stamp) × (bytes.now ≡ stamp_text ms)) }
     {
         let stamp = of_digits(bytes)?;
         let mut text = [0; 24];
@@ -121,7 +122,8 @@ fn day_number(year: u64, month: u64, day: u64) -> Option<u64>
     requires year_high { year ≤ 9999 }
     requires month_high { month ≤ 99 }
     requires day_high { day ≤ 99 }
-    ensures value { (n : ℕ) → n ≤ 2932896 → day_after n ≡ record { year = year; month = month; day = day } → result ≡ Some n }
+    ensures value { (n : ℕ) → n ≤ 2932896
+        → day_after n ≡ record { year = year; month = month; day = day } → result ≡ Some n }
     ensures bound { IfSome result (λ n. n ≤ 2932896) }
 {
     let date = Date::new(year as i16, month as i8, day as i8).ok()?;
@@ -148,7 +150,8 @@ fn value_at(bytes: &[u8], place: usize) -> u64
 /// The number that two digits stand for.
 fn two_at(bytes: &[u8], place: usize) -> u64
     requires { place + 1 < length bytes.now }
-    ensures value { result ≡ 10 * min 9 (slice_index bytes.now place - 48) + min 9 (slice_index bytes.now (place + 1) - 48) }
+    ensures value { result ≡ 10 * min 9 (slice_index bytes.now place - 48)
+        + min 9 (slice_index bytes.now (place + 1) - 48) }
     ensures bound { result ≤ 99 }
 {
     10 * value_at(bytes, place) + value_at(bytes, place + 1)

@@ -1,4 +1,5 @@
-ghost use Rattle.al_base.specs.Identifiers.{IsTypeName, begins_identifier as begins_identifier_of, continues_identifier as continues_identifier_of, is_identifier as is_identifier_of};
+ghost use Rattle.al_base.specs.Identifiers.{IsTypeName, begins_identifier as begins_identifier_of, continues_identifier as continues_identifier_of, is_identifier as is_identifier_of, is_type_name as is_type_name_of};
+ghost use Rattle.al_base.specs.Forms.{IsReadAs};
 ghost use Rattle.std.proofs.Common.{rules};
 ghost use Rattle.std.specs.Bool.{◌==◌};
 ghost use Rattle.std.specs.Cmp.Lexicographic.{slice_cmp};
@@ -10,32 +11,12 @@ ghost use Rattle.std.specs.Prelude.{◌≡◌, ◌<◌, ◌↔◌, IfOk, IfSome,
 ghost use lib.Pointwise.{pointwise};
 
 use crate::copied::Copied;
+use crate::form::FormFault;
+use crate::limits::LONGEST_TYPE;
 use crate::text::{Text, TextFault};
 use std::alloc::{AllocError, Global};
 use std::cmp::Ordering;
-use std::error::Error;
-use std::fmt;
 use std::marker::Model;
-
-/// Why bytes are no alarm type.
-#[derive(Clone, Copy, Debug, PartialEq, Eq)]
-pub enum TypeFault {
-    /// The bytes aren't `module:identity`, two identifiers in at most 128 bytes.
-    Form,
-    /// There was no memory for the text.
-    Memory,
-}
-
-impl fmt::Display for TypeFault {
-    fn fmt<W: fmt::Write>(&self, f: &mut fmt::Formatter<W>) -> fmt::Result {
-        f.write_str(match self {
-            TypeFault::Form => "the bytes aren't the name of an alarm type",
-            TypeFault::Memory => "out of memory",
-        })
-    }
-}
-
-impl Error for TypeFault {}
 
 /// The identity that names a type of alarm (RFC 8632, `alarm-type-id`), with its module, as `ex:link`.
 #[derive(Debug, Drop)]
@@ -56,16 +37,18 @@ impl Model for TypeId {
 
 impl TypeId {
     /// The alarm type of this name.
-    pub fn read(alloc: Global, bytes: &[u8]) -> Result<TypeId, TypeFault>
+    #[tactic(auto, using(crate::proofs::TextTests::type_holds, crate::proofs::TextTests::type_fails))]
+    pub fn read(alloc: Global, bytes: &[u8]) -> Result<TypeId, FormFault>
         ensures ok { IfOk result (λ id. (id ≡ bytes.now) × IsTypeName bytes.now) }
-        ensures form { (result ≡ Err TypeFault.Form) ↔ ¬ (IsTypeName bytes.now) }
+        ensures form { (result ≡ Err FormFault.Form) ↔ ¬ (IsTypeName bytes.now) }
+        ensures read { IsReadAs is_type_name_of bytes.now result }
     {
         if !is_type_name(bytes) {
-            return Err(TypeFault::Form);
+            return Err(FormFault::Form);
         }
         match Text::read(alloc, bytes) {
             Ok(text) => Ok(TypeId { text }),
-            Err(TextFault::Memory) => Err(TypeFault::Memory),
+            Err(TextFault::Memory) => Err(FormFault::Memory),
             Err(TextFault::NotUtf8) => unreachable!(),
         }
     }
@@ -88,7 +71,7 @@ impl TypeId {
 fn is_type_name(bytes: &[u8]) -> bool
     ensures { IsTrue result ↔ IsTypeName bytes.now }
 {
-    if bytes.len() > 128 {
+    if bytes.len() > LONGEST_TYPE {
         return false;
     }
     match place_of_colon(bytes) {
@@ -156,7 +139,8 @@ impl Eq for TypeId {
 impl PartialOrd for TypeId {
     ghost partial_cmp = { as_partial_cmp (slice_cmp nat_cmp) };
 
-    ghost laws = { partial_order_from_own_ties (Prim.search (comparing, rules)) (Prim.search (comparing, rules)) };
+    ghost laws = { partial_order_from_own_ties (Prim.search (comparing, rules))
+        (Prim.search (comparing, rules)) };
 
     fn partial_cmp(&self, other: &TypeId) -> Option<Ordering> {
         Some(self.cmp(other))

@@ -5,7 +5,9 @@ ghost use Rattle.al_commands.specs.Told.{status_told, three_digits};
 
 /// The status that the bytes of an answer tell.
 pub fn status_in(bytes: &[u8]) -> u16
-    ensures { (status : ℕ) (rest : List ℕ) → bytes.now ≡ codes "HTTP/1.1 " ++ decimal status ++ 32 ∷ rest → result ≡ status_told status }
+    ensures { (status : ℕ) (rest : List ℕ)
+        → bytes.now ≡ codes "HTTP/1.1 " ++ decimal status ++ 32 ∷ rest
+        → result ≡ status_told status }
 {
     if bytes.len() < 13 || bytes[12] != b' ' {
         return 0;

@@ -16,8 +16,11 @@ use std::alloc::Global;
 
 /// Opens the journal on the disk and tells what there is in it, or why it isn't opened.
 pub fn run_check<D: Disk, O: Sink>(alloc: Global, disk: D, sink: &mut O) -> (u8, D)
-    ensures checked { HasChecked (record { old_disk = D.told disk; new_disk = D.told result.1; old_faults = D.faults disk; new_faults = D.faults result.1; old_output = O.held sink.old; new_output = O.held sink.new }) result.0 }
-    ensures write_fault { result.0 ≡ status_write_fault → Rose (O.faults sink.old) (O.faults sink.new) }
+    ensures checked { HasChecked (record { old_disk = D.told disk; new_disk = D.told result.1;
+        old_faults = D.faults disk; new_faults = D.faults result.1; old_output = O.held sink.old;
+        new_output = O.held sink.new }) result.0 }
+    ensures write_fault { result.0 ≡ status_write_fault
+        → Rose (O.faults sink.old) (O.faults sink.new) }
     ensures other { result.0 ≢ status_read_fault }
     ensures later_sink { O.faults sink.old ≤ O.faults sink.new }
     ensures later_disk { D.faults disk ≤ D.faults result.1 }
@@ -34,7 +37,8 @@ pub fn run_check<D: Disk, O: Sink>(alloc: Global, disk: D, sink: &mut O) -> (u8,
 
 /// What there is in the journal.
 fn counts_of<D: Disk>(office: &Office<D>) -> [Count; 6]
-    ensures { counts_text result ++ line_end ≡ check_lines office.now.journal.capacity office.now.entries }
+    ensures { counts_text result ++ line_end
+        ≡ check_lines office.now.journal.capacity office.now.entries }
 {
     office.keeps_its_history();
     let tables = office.look();
@@ -69,8 +73,10 @@ fn counts_of<D: Disk>(office: &Office<D>) -> [Count; 6]
 
 /// Tells why the journal isn't opened, but for want of memory.
 pub fn tell_fault<O: Sink>(sink: &mut O, fault: OfficeFault) -> u8
-    ensures told { Tells (fault_line fault) (status_of_fault fault) (O.held sink.old) (O.held sink.new) result }
-    ensures write_fault { result ≡ status_write_fault → Rose (O.faults sink.old) (O.faults sink.new) }
+    ensures told { Tells (fault_line fault) (status_of_fault fault) (O.held sink.old)
+        (O.held sink.new) result }
+    ensures write_fault { result ≡ status_write_fault
+        → Rose (O.faults sink.old) (O.faults sink.new) }
     ensures other { result ≢ status_read_fault }
     ensures later { O.faults sink.old ≤ O.faults sink.new }
 {
@@ -83,8 +89,10 @@ pub fn tell_fault<O: Sink>(sink: &mut O, fault: OfficeFault) -> u8
 }
 
 fn tell_invalid<O: Sink>(sink: &mut O, count: u64) -> u8
-    ensures told { Tells (fault_line (OfficeFault.Invalid count)) (status_of_fault (OfficeFault.Invalid count)) (O.held sink.old) (O.held sink.new) result }
-    ensures write_fault { result ≡ status_write_fault → Rose (O.faults sink.old) (O.faults sink.new) }
+    ensures told { Tells (fault_line (OfficeFault.Invalid count))
+        (status_of_fault (OfficeFault.Invalid count)) (O.held sink.old) (O.held sink.new) result }
+    ensures write_fault { result ≡ status_write_fault
+        → Rose (O.faults sink.old) (O.faults sink.new) }
     ensures other { result ≢ status_read_fault }
     ensures later { O.faults sink.old ≤ O.faults sink.new }
 {

@@ -24,7 +24,10 @@ impl Draws {
 
     /// The next request, by three draws.
     pub fn request(&mut self, alloc: Global) -> Result<String, AllocError>
-        ensures text { IfOk result (λ text. string_bytes text ≡ text_by (drawn self.old.number) (drawn (next_number self.old.number)) (drawn (next_number (next_number self.old.number)))) }
+        ensures text { IfOk result (λ text.
+            string_bytes text ≡ text_by (drawn self.old.number)
+            (drawn (next_number self.old.number))
+            (drawn (next_number (next_number self.old.number)))) }
         ensures next { self.new.number ≡ next_number (next_number (next_number self.old.number)) }
     {
         let a = self.draw();

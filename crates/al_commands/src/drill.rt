@@ -54,7 +54,8 @@ impl Model for Drill {
 
     ghost view = { λ d. tally_of d.turns.seen.entries d.ok d.refused };
 
-    ghost invariant = { λ d. (d.turns.taken ≡ false) × (d.turns.seen.fixed.capacity ≡ drill_capacity) };
+    ghost invariant = { λ d. (d.turns.taken ≡ false)
+        × (d.turns.seen.fixed.capacity ≡ drill_capacity) };
 }
 
 /// Answers so many requests that the seed gives, behind one that installs an inventory, and tells what came of them.
@@ -62,7 +63,8 @@ pub fn run_drill<O: Sink>(alloc: Global, seed: u64, count: u64, sink: &mut O) ->
     requires seed { seed ≤ 2147483647 }
     requires count { count ≤ 20000 }
     ensures drilled { Drills seed count (O.held sink.old) (O.held sink.new) result }
-    ensures write_fault { result ≡ status_write_fault → Rose (O.faults sink.old) (O.faults sink.new) }
+    ensures write_fault { result ≡ status_write_fault
+        → Rose (O.faults sink.old) (O.faults sink.new) }
     ensures other { result ≢ status_read_fault }
     ensures later { O.faults sink.old ≤ O.faults sink.new }
 {
@@ -109,7 +111,8 @@ fn exchange(
 ) -> Result<u16, AllocError>
     requires idle { turns.old.taken ≡ false }
     requires capacity { turns.old.seen.fixed.capacity ≡ drill_capacity }
-    ensures sends { IfOk result (λ status. SendsOne text.now turns.old.seen.entries turns.new.seen.entries status) }
+    ensures sends { IfOk result (λ status.
+        SendsOne text.now turns.old.seen.entries turns.new.seen.entries status) }
     ensures idle { turns.new.taken ≡ false }
     ensures fixed { turns.new.seen.fixed ≡ turns.old.seen.fixed }
 {
@@ -184,7 +187,8 @@ impl Drill {
     fn send(&mut self, alloc: Global, text: &[u8]) -> Result<(), AllocError>
         requires { self.old.ok + self.old.refused ≤ 20000 }
         ensures sends { OnOk result (Sends text.now self.old self.new) }
-        ensures counted { OnOk result (self.new.ok + self.new.refused ≡ self.old.ok + self.old.refused + 1) }
+        ensures counted { OnOk result (self.new.ok + self.new.refused
+            ≡ self.old.ok + self.old.refused + 1) }
     {
         let status = exchange(
             alloc,
@@ -221,7 +225,8 @@ impl Drill {
 /// What there is in the journal, and what was counted.
 fn counts_of(office: &Office<MemDisk>, count: u64, ok: u64, refused: u64) -> [Count; 8]
     requires { count ≤ 20000 }
-    ensures { counts_text result ++ line_end ≡ drill_lines count (tally_of office.now.entries ok refused) }
+    ensures { counts_text result ++ line_end
+        ≡ drill_lines count (tally_of office.now.entries ok refused) }
 {
     office.keeps_its_history();
     let tables = office.look();

@@ -33,7 +33,8 @@ pub fn tell<O: Sink>(sink: &mut O, text: &[u8], done: u8) -> u8
 
 /// Prints the counts, one behind the other, and ends the line. The status is the given one, or that of a fault of the sink.
 pub fn tell_counts<O: Sink>(sink: &mut O, counts: &[Count], done: u8) -> u8
-    ensures told { Tells (counts_text counts.now ++ line_end) done (O.held sink.old) (O.held sink.new) result }
+    ensures told { Tells (counts_text counts.now ++ line_end) done (O.held sink.old)
+        (O.held sink.new) result }
     ensures write_fault { result ≢ done → Rose (O.faults sink.old) (O.faults sink.new) }
     ensures later { O.faults sink.old ≤ O.faults sink.new }
 {
@@ -44,8 +45,10 @@ pub fn tell_counts<O: Sink>(sink: &mut O, counts: &[Count], done: u8) -> u8
 }
 
 fn write_counts<O: Sink>(sink: &mut O, counts: &[Count]) -> Result<(), WriteFault>
-    ensures ok { OnOk result (Appends (O.held sink.old) (O.held sink.new) (counts_text counts.now ++ line_end)) }
-    ensures fault { OnErr result (AppendsFront (O.held sink.old) (O.held sink.new) (counts_text counts.now ++ line_end)) }
+    ensures ok { OnOk result (Appends (O.held sink.old) (O.held sink.new) (counts_text counts.now
+        ++ line_end)) }
+    ensures fault { OnErr result
+        (AppendsFront (O.held sink.old) (O.held sink.new) (counts_text counts.now ++ line_end)) }
     ensures later { O.faults sink.old ≤ O.faults sink.new }
     ensures cause { OnErr result (Rose (O.faults sink.old) (O.faults sink.new)) }
 {
@@ -57,8 +60,11 @@ fn write_counts<O: Sink>(sink: &mut O, counts: &[Count]) -> Result<(), WriteFaul
 
 /// Writes the words and the number.
 pub fn write_count<O: Sink>(sink: &mut O, count: &Count) -> Result<(), WriteFault>
-    ensures ok { OnOk result (Appends (O.held sink.old) (O.held sink.new) (count.now.words.now ++ decimal count.now.number)) }
-    ensures fault { OnErr result (AppendsFront (O.held sink.old) (O.held sink.new) (count.now.words.now ++ decimal count.now.number)) }
+    ensures ok { OnOk result (Appends (O.held sink.old) (O.held sink.new) (count.now.words.now
+        ++ decimal count.now.number)) }
+    ensures fault { OnErr result
+        (AppendsFront (O.held sink.old) (O.held sink.new) (count.now.words.now
+        ++ decimal count.now.number)) }
     ensures later { O.faults sink.old ≤ O.faults sink.new }
     ensures cause { OnErr result (Rose (O.faults sink.old) (O.faults sink.new)) }
 {

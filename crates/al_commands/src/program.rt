@@ -32,15 +32,34 @@ pub fn run<D: Disk, S: Source, O: Sink, K: Clock>(
     sink: &mut O,
     clock: &mut K,
 ) -> (u8, D)
-    ensures init { (capacity : ℕ) → IsInit words.now capacity → HasMade capacity (record { old_disk = D.told disk; new_disk = D.told result.1; old_faults = D.faults disk; new_faults = D.faults result.1; old_output = O.held sink.old; new_output = O.held sink.new }) result.0 }
-    ensures session { IsSession words.now → (HasNotBegun (record { old_disk = D.told disk; new_disk = D.told result.1; old_faults = D.faults disk; new_faults = D.faults result.1 }) result.0 × HasNotTalked source.old source.new sink.old sink.new clock.old clock.new)
-        ⊎ HasConversed (S.left source.old) (record { old_output = O.held sink.old; new_output = O.held sink.new; old_clock = K.readings clock.old; new_clock = K.readings clock.new }) (record { old_disk = D.told disk; new_disk = D.told result.1; old_faults = D.faults disk; new_faults = D.faults result.1 }) result.0 }
-    ensures check { IsCheck words.now → HasChecked (record { old_disk = D.told disk; new_disk = D.told result.1; old_faults = D.faults disk; new_faults = D.faults result.1; old_output = O.held sink.old; new_output = O.held sink.new }) result.0 }
-    ensures drill { (seed count : ℕ) → IsDrill words.now seed count → Drills seed count (O.held sink.old) (O.held sink.new) result.0 × (result.1 ≡ disk) }
-    ensures usage { IsNoRow words.now → Tells usage_line status_bad_words (O.held sink.old) (O.held sink.new) result.0 × (result.1 ≡ disk) }
-    ensures untouched { ¬ (IsSession words.now) → (source.new ≡ source.old) × (clock.new ≡ clock.old) }
-    ensures read_fault { result.0 ≡ status_read_fault → Rose (S.faults source.old) (S.faults source.new) }
-    ensures write_fault { result.0 ≡ status_write_fault → Rose (O.faults sink.old) (O.faults sink.new) }
+    ensures init { (capacity : ℕ) → IsInit words.now capacity
+        → HasMade capacity (record { old_disk = D.told disk; new_disk = D.told result.1;
+        old_faults = D.faults disk; new_faults = D.faults result.1; old_output = O.held sink.old;
+        new_output = O.held sink.new }) result.0 }
+    ensures session { IsSession words.now
+        → (HasNotBegun (record { old_disk = D.told disk; new_disk = D.told result.1;
+        old_faults = D.faults disk; new_faults = D.faults result.1 }) result.0
+        × HasNotTalked source.old source.new sink.old sink.new clock.old clock.new)
+        ⊎ HasConversed (S.left source.old) (record { old_output = O.held sink.old;
+            new_output = O.held sink.new; old_clock = K.readings clock.old;
+            new_clock = K.readings clock.new }) (record { old_disk = D.told disk;
+            new_disk = D.told result.1; old_faults = D.faults disk;
+            new_faults = D.faults result.1 }) result.0 }
+    ensures check { IsCheck words.now
+        → HasChecked (record { old_disk = D.told disk; new_disk = D.told result.1;
+        old_faults = D.faults disk; new_faults = D.faults result.1; old_output = O.held sink.old;
+        new_output = O.held sink.new }) result.0 }
+    ensures drill { (seed count : ℕ) → IsDrill words.now seed count
+        → Drills seed count (O.held sink.old) (O.held sink.new) result.0 × (result.1 ≡ disk) }
+    ensures usage { IsNoRow words.now
+        → Tells usage_line status_bad_words (O.held sink.old) (O.held sink.new) result.0
+        × (result.1 ≡ disk) }
+    ensures untouched { ¬ (IsSession words.now) → (source.new ≡ source.old)
+        × (clock.new ≡ clock.old) }
+    ensures read_fault { result.0 ≡ status_read_fault
+        → Rose (S.faults source.old) (S.faults source.new) }
+    ensures write_fault { result.0 ≡ status_write_fault
+        → Rose (O.faults sink.old) (O.faults sink.new) }
     ensures later_source { S.faults source.old ≤ S.faults source.new }
     ensures later_sink { O.faults sink.old ≤ O.faults sink.new }
     ensures later_disk { D.faults disk ≤ D.faults result.1 }
@@ -62,14 +81,28 @@ fn run_command<D: Disk, S: Source, O: Sink, K: Clock>(
 ) -> (u8, D)
     requires { IsWithinRow command }
     ensures does { ByCommand command
-        (λ capacity. HasMade capacity (record { old_disk = D.told disk; new_disk = D.told result.1; old_faults = D.faults disk; new_faults = D.faults result.1; old_output = O.held sink.old; new_output = O.held sink.new }) result.0)
-        ((HasNotBegun (record { old_disk = D.told disk; new_disk = D.told result.1; old_faults = D.faults disk; new_faults = D.faults result.1 }) result.0 × HasNotTalked source.old source.new sink.old sink.new clock.old clock.new)
-        ⊎ HasConversed (S.left source.old) (record { old_output = O.held sink.old; new_output = O.held sink.new; old_clock = K.readings clock.old; new_clock = K.readings clock.new }) (record { old_disk = D.told disk; new_disk = D.told result.1; old_faults = D.faults disk; new_faults = D.faults result.1 }) result.0)
-        (HasChecked (record { old_disk = D.told disk; new_disk = D.told result.1; old_faults = D.faults disk; new_faults = D.faults result.1; old_output = O.held sink.old; new_output = O.held sink.new }) result.0)
-        (λ seed count. Drills seed count (O.held sink.old) (O.held sink.new) result.0 × (result.1 ≡ disk)) }
-    ensures untouched { command ≢ Command.Session → (source.new ≡ source.old) × (clock.new ≡ clock.old) }
-    ensures read_fault { result.0 ≡ status_read_fault → Rose (S.faults source.old) (S.faults source.new) }
-    ensures write_fault { result.0 ≡ status_write_fault → Rose (O.faults sink.old) (O.faults sink.new) }
+        (λ capacity. HasMade capacity (record { old_disk = D.told disk; new_disk = D.told result.1;
+            old_faults = D.faults disk; new_faults = D.faults result.1;
+            old_output = O.held sink.old; new_output = O.held sink.new }) result.0)
+        ((HasNotBegun (record { old_disk = D.told disk; new_disk = D.told result.1;
+            old_faults = D.faults disk; new_faults = D.faults result.1 }) result.0
+            × HasNotTalked source.old source.new sink.old sink.new clock.old clock.new)
+        ⊎ HasConversed (S.left source.old) (record { old_output = O.held sink.old;
+            new_output = O.held sink.new; old_clock = K.readings clock.old;
+            new_clock = K.readings clock.new }) (record { old_disk = D.told disk;
+            new_disk = D.told result.1; old_faults = D.faults disk;
+            new_faults = D.faults result.1 }) result.0)
+        (HasChecked (record { old_disk = D.told disk; new_disk = D.told result.1;
+            old_faults = D.faults disk; new_faults = D.faults result.1;
+            old_output = O.held sink.old; new_output = O.held sink.new }) result.0)
+        (λ seed count. Drills seed count (O.held sink.old) (O.held sink.new) result.0
+            × (result.1 ≡ disk)) }
+    ensures untouched { command ≢ Command.Session → (source.new ≡ source.old)
+        × (clock.new ≡ clock.old) }
+    ensures read_fault { result.0 ≡ status_read_fault
+        → Rose (S.faults source.old) (S.faults source.new) }
+    ensures write_fault { result.0 ≡ status_write_fault
+        → Rose (O.faults sink.old) (O.faults sink.new) }
     ensures later_source { S.faults source.old ≤ S.faults source.new }
     ensures later_sink { O.faults sink.old ≤ O.faults sink.new }
     ensures later_disk { D.faults disk ≤ D.faults result.1 }
@@ -85,7 +118,8 @@ fn run_command<D: Disk, S: Source, O: Sink, K: Clock>(
 /// Tells which words there are.
 pub fn refuse_words<O: Sink>(sink: &mut O) -> u8
     ensures usage { Tells usage_line status_bad_words (O.held sink.old) (O.held sink.new) result }
-    ensures write_fault { result ≡ status_write_fault → Rose (O.faults sink.old) (O.faults sink.new) }
+    ensures write_fault { result ≡ status_write_fault
+        → Rose (O.faults sink.old) (O.faults sink.new) }
     ensures other { result ≢ status_read_fault }
     ensures later { O.faults sink.old ≤ O.faults sink.new }
 {

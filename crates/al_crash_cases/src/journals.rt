@@ -2,7 +2,8 @@
 
 ghost use Rattle.std.specs.Prelude.{◌≡◌, ◌≤◌, IfOk, IsUtf8, length};
 ghost use Rattle.al_base.specs.Identifiers.{IsTypeName};
-ghost use Rattle.al_model.specs.Limits.{IsKeyWithin, IsRequestWithin};
+ghost use Rattle.al_model.specs.Limits.{IsRequestWithin};
+ghost use Rattle.al_ids.specs.Limits.{IsKeyWithin};
 
 use al_base::{Severity, Stamp, Status, Text, TypeId};
 use al_disk::MemDisk;

@@ -44,7 +44,9 @@ pub trait Disk: Drop {
     /// Reads from a place on into the front of `buf`, as much as there is and fits, and answers how much.
     fn read_at(&mut self, place: u64, buf: &mut [u8]) -> Result<usize, DiskFault>
         ensures within { IfOk result (λ count. count ≤ length buf.new) }
-        ensures read { IfOk result (λ count. Told (told self.old) (λ s. take count buf.new ≡ take (length buf.old) (drop place s.content))) }
+        ensures read { IfOk result (λ count.
+            Told (told self.old) (λ s.
+            take count buf.new ≡ take (length buf.old) (drop place s.content))) }
         ensures same { told self.new ≡ told self.old }
         ensures as_it_reads { Told (told self.new) ReadsAsAnImage }
         ensures later { faults self.old ≤ faults self.new }
@@ -53,7 +55,9 @@ pub trait Disk: Drop {
     /// Writes over what is there from a place on, and past the end.
     fn write_at(&mut self, place: u64, bytes: &[u8]) -> Result<(), DiskFault>
         requires { Told (told self.old) (λ s. place ≤ length s.content) }
-        ensures wrote { Goes (λ s t. Changes (Wrote place (length bytes.now)) (put place bytes.now s.content) result s t) (told self.old) (told self.new) }
+        ensures wrote { Goes (λ s t.
+            Changes (Wrote place (length bytes.now)) (put place bytes.now s.content) result s t)
+            (told self.old) (told self.new) }
         ensures as_it_reads { Told (told self.new) ReadsAsAnImage }
         ensures later { faults self.old ≤ faults self.new }
         ensures cause { OnErr result (Rose (faults self.old) (faults self.new)) };
@@ -61,7 +65,8 @@ pub trait Disk: Drop {
     /// Cuts what lies past a size off.
     fn cut(&mut self, size: u64) -> Result<(), DiskFault>
         requires { Told (told self.old) (λ s. size ≤ length s.content) }
-        ensures cut { Goes (λ s t. Changes (CutTo size) (take size s.content) result s t) (told self.old) (told self.new) }
+        ensures cut { Goes (λ s t.
+            Changes (CutTo size) (take size s.content) result s t) (told self.old) (told self.new) }
         ensures as_it_reads { Told (told self.new) ReadsAsAnImage }
         ensures later { faults self.old ≤ faults self.new }
         ensures cause { OnErr result (Rose (faults self.old) (faults self.new)) };

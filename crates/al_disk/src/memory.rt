@@ -31,7 +31,8 @@ impl Model for MemDisk {
 
     ghost Value = { MemDiskView };
 
-    ghost view = { λ d. record { state = d.log.state; written = d.log.written; room = d.room; calls = d.log.calls; plan = d.plan } };
+    ghost view = { λ d. record { state = d.log.state; written = d.log.written; room = d.room;
+        calls = d.log.calls; plan = d.plan } };
 
     ghost invariant = { λ d. ReadsAsAnImage d.log.state
         × (d.content.items ≡ d.log.state.content)
@@ -53,7 +54,9 @@ impl MemDisk {
         fails: &[u64],
     ) -> Result<MemDisk, AllocError>
         requires { length bytes.now ≤ room }
-        ensures { IfOk result (λ disk. disk ≡ record { state = state_of bytes.now; written = 0; room = room; calls = calls; plan = record { fails = fails.now; calls = 0; faults = 0 } }) }
+        ensures { IfOk result (λ disk.
+            disk ≡ record { state = state_of bytes.now; written = 0; room = room; calls = calls;
+            plan = record { fails = fails.now; calls = 0; faults = 0 } }) }
     {
         let Some(bytes_room) = room.checked_mul(2) else {
             return Err(AllocError);
@@ -128,12 +131,14 @@ impl Disk for MemDisk {
 
     fn read_at(&mut self, place: u64, buf: &mut [u8]) -> Result<usize, DiskFault>
         ensures within { IfOk result (λ count. count ≤ length buf.new) }
-        ensures read { IfOk result (λ count. take count buf.new ≡ take (length buf.old) (drop place self.old.state.content)) }
+        ensures read { IfOk result (λ count.
+            take count buf.new ≡ take (length buf.old) (drop place self.old.state.content)) }
         ensures same { Some self.new.state ≡ Some self.old.state }
         ensures as_it_reads { ReadsAsAnImage self.new.state }
         ensures later { self.old.plan.faults ≤ self.new.plan.faults }
         ensures cause { OnErr result (Rose self.old.plan.faults self.new.plan.faults) }
-        ensures answer { result ≡ answer_of (fails_call self.old) (min (length buf.old) (length self.old.state.content - place)) }
+        ensures answer { result ≡ answer_of (fails_call self.old)
+            (min (length buf.old) (length self.old.state.content - place)) }
         ensures after { self.new ≡ after_look self.old }
     {
         let failed = self.fails_call();
@@ -146,7 +151,9 @@ impl Disk for MemDisk {
 
     fn write_at(&mut self, place: u64, bytes: &[u8]) -> Result<(), DiskFault>
         requires { place ≤ length self.old.state.content }
-        ensures wrote { Goes (λ s t. Changes (Wrote place (length bytes.now)) (put place bytes.now s.content) result s t) (Some self.old.state) (Some self.new.state) }
+        ensures wrote { Goes (λ s t.
+            Changes (Wrote place (length bytes.now)) (put place bytes.now s.content) result s t)
+            (Some self.old.state) (Some self.new.state) }
         ensures as_it_reads { ReadsAsAnImage self.new.state }
         ensures later { self.old.plan.faults ≤ self.new.plan.faults }
         ensures cause { OnErr result (Rose self.old.plan.faults self.new.plan.faults) }
@@ -170,7 +177,9 @@ impl Disk for MemDisk {
 
     fn cut(&mut self, size: u64) -> Result<(), DiskFault>
         requires { size ≤ length self.old.state.content }
-        ensures cut { Goes (λ s t. Changes (CutTo size) (take size s.content) result s t) (Some self.old.state) (Some self.new.state) }
+        ensures cut { Goes (λ s t.
+            Changes (CutTo size) (take size s.content) result s t) (Some self.old.state)
+            (Some self.new.state) }
         ensures as_it_reads { ReadsAsAnImage self.new.state }
         ensures later { self.old.plan.faults ≤ self.new.plan.faults }
         ensures cause { OnErr result (Rose self.old.plan.faults self.new.plan.faults) }
@@ -194,7 +203,8 @@ impl Disk for MemDisk {
 
     fn sync(&mut self) -> Result<(), DiskFault>
         ensures as_it_read { ReadsAsAnImage self.old.state }
-        ensures synced { Goes (λ s t. Syncs result s t) (Some self.old.state) (Some self.new.state) }
+        ensures synced { Goes (λ s t.
+            Syncs result s t) (Some self.old.state) (Some self.new.state) }
         ensures as_it_reads { ReadsAsAnImage self.new.state }
         ensures later { self.old.plan.faults ≤ self.new.plan.faults }
         ensures cause { OnErr result (Rose self.old.plan.faults self.new.plan.faults) }

@@ -27,9 +27,11 @@ pub trait Series: Drop {
 
     /// Writes the element's compact text. It takes no memory.
     fn put_at(&self, out: &mut Vec<u8>, i: usize)
-        requires { vec_len out.old + length (text_of (slice_get (trees self.now) i)) ≤ vec_capacity out.old }
+        requires { vec_len out.old + length (text_of (slice_get (trees self.now) i))
+            ≤ vec_capacity out.old }
         ensures items { out.new.items ≡ out.old.items ++ text_of (slice_get (trees self.now) i) }
-        ensures len { vec_len out.new ≡ vec_len out.old + length (text_of (slice_get (trees self.now) i)) }
+        ensures len { vec_len out.new
+            ≡ vec_len out.old + length (text_of (slice_get (trees self.now) i)) }
         ensures room { vec_capacity out.old ≤ vec_capacity out.new };
 
     /// How long that text is, or the greatest number where it is longer.
@@ -95,9 +97,12 @@ fn value_at<S: Series>(alloc: Global, series: &S, i: usize) -> Result<Value, All
 }
 
 fn put_items<S: Series>(out: &mut Vec<u8>, series: &S)
-    requires { vec_len out.old + 1 + length (items_text false (items_of (S.trees series.now))) ≤ vec_capacity out.old }
-    ensures items { out.new.items ≡ out.old.items ++ 91 ∷ items_text false (items_of (S.trees series.now)) }
-    ensures len { vec_len out.new ≡ vec_len out.old + 1 + length (items_text false (items_of (S.trees series.now))) }
+    requires { vec_len out.old + 1 + length (items_text false (items_of (S.trees series.now)))
+        ≤ vec_capacity out.old }
+    ensures items { out.new.items
+        ≡ out.old.items ++ 91 ∷ items_text false (items_of (S.trees series.now)) }
+    ensures len { vec_len out.new
+        ≡ vec_len out.old + 1 + length (items_text false (items_of (S.trees series.now))) }
     ensures room { vec_capacity out.old ≤ vec_capacity out.new }
 {
     put_byte(out, b'[');
@@ -110,7 +115,8 @@ fn put_items<S: Series>(out: &mut Vec<u8>, series: &S)
 /// Writes the element at this place, behind a comma where it isn't the first.
 fn put_item<S: Series>(out: &mut Vec<u8>, series: &S, i: usize)
     requires within { i < length (S.trees series.now) }
-    requires room { vec_len out.old + length (item_text (S.trees series.now) i) ≤ vec_capacity out.old }
+    requires room { vec_len out.old + length (item_text (S.trees series.now) i)
+        ≤ vec_capacity out.old }
     ensures items { out.new.items ≡ out.old.items ++ item_text (S.trees series.now) i }
     ensures len { vec_len out.new ≡ vec_len out.old + length (item_text (S.trees series.now) i) }
     ensures room { vec_capacity out.old ≤ vec_capacity out.new }

@@ -70,9 +70,12 @@ fn object_value<P: Shown>(alloc: Global, fields: &[Field<P>]) -> Result<Value, A
 #[tactic(auto, using(crate::proofs::ObjectTexts::object_text))]
 fn put_object<P: Shown>(out: &mut Vec<u8>, fields: &[Field<P>])
     requires rising { AreRising (fields_by P.said fields.now) }
-    requires room { vec_len out.old + length (compact_text (object_of (fields_by P.said fields.now))) ≤ vec_capacity out.old }
-    ensures items { out.new.items ≡ out.old.items ++ compact_text (object_of (fields_by P.said fields.now)) }
-    ensures len { vec_len out.new ≡ vec_len out.old + length (compact_text (object_of (fields_by P.said fields.now))) }
+    requires room { vec_len out.old
+        + length (compact_text (object_of (fields_by P.said fields.now))) ≤ vec_capacity out.old }
+    ensures items { out.new.items
+        ≡ out.old.items ++ compact_text (object_of (fields_by P.said fields.now)) }
+    ensures len { vec_len out.new
+        ≡ vec_len out.old + length (compact_text (object_of (fields_by P.said fields.now))) }
     ensures room { vec_capacity out.old ≤ vec_capacity out.new }
 {
     put_braced(out, fields);
@@ -108,7 +111,8 @@ fn add_field<P: Shown>(
     field: &Field<P>,
 ) -> Result<(), AllocError>
     ensures { OnOk result (members_view members.new.entries
-        ≡ with_member field.now.name.now (P.said field.now.piece) (members_view members.old.entries)) }
+        ≡ with_member field.now.name.now (P.said field.now.piece)
+            (members_view members.old.entries)) }
 {
     match field.piece.value(alloc)? {
         Some(value) => serde_json::put(members, alloc, field.name, value),
@@ -118,9 +122,11 @@ fn add_field<P: Shown>(
 
 /// Writes the fields between braces.
 fn put_braced<P: Shown>(out: &mut Vec<u8>, fields: &[Field<P>])
-    requires { vec_len out.old + length (braced (fields_by P.said fields.now)) ≤ vec_capacity out.old }
+    requires { vec_len out.old + length (braced (fields_by P.said fields.now))
+        ≤ vec_capacity out.old }
     ensures items { out.new.items ≡ out.old.items ++ braced (fields_by P.said fields.now) }
-    ensures len { vec_len out.new ≡ vec_len out.old + length (braced (fields_by P.said fields.now)) }
+    ensures len { vec_len out.new
+        ≡ vec_len out.old + length (braced (fields_by P.said fields.now)) }
     ensures room { vec_capacity out.old ≤ vec_capacity out.new }
 {
     put_byte(out, b'{');
@@ -129,9 +135,11 @@ fn put_braced<P: Shown>(out: &mut Vec<u8>, fields: &[Field<P>])
 }
 
 fn put_fields<P: Shown>(out: &mut Vec<u8>, fields: &[Field<P>])
-    requires { vec_len out.old + length (run_text false (fields_by P.said fields.now)) ≤ vec_capacity out.old }
+    requires { vec_len out.old + length (run_text false (fields_by P.said fields.now))
+        ≤ vec_capacity out.old }
     ensures items { out.new.items ≡ out.old.items ++ run_text false (fields_by P.said fields.now) }
-    ensures len { vec_len out.new ≡ vec_len out.old + length (run_text false (fields_by P.said fields.now)) }
+    ensures len { vec_len out.new
+        ≡ vec_len out.old + length (run_text false (fields_by P.said fields.now)) }
     ensures room { vec_capacity out.old ≤ vec_capacity out.new }
 {
     let mut later = false;
@@ -143,9 +151,13 @@ fn put_fields<P: Shown>(out: &mut Vec<u8>, fields: &[Field<P>])
 /// Writes the field, if it says anything, and tells whether anything stands before the next one.
 #[tactic(auto, using(crate::proofs::Steps::some_there, crate::proofs::Steps::some_absent))]
 fn put_field<P: Shown>(out: &mut Vec<u8>, later: bool, field: &Field<P>) -> bool
-    requires { vec_len out.old + length (some_text later field.now.name.now (P.said field.now.piece)) ≤ vec_capacity out.old }
-    ensures items { out.new.items ≡ out.old.items ++ some_text later field.now.name.now (P.said field.now.piece) }
-    ensures len { vec_len out.new ≡ vec_len out.old + length (some_text later field.now.name.now (P.said field.now.piece)) }
+    requires { vec_len out.old
+        + length (some_text later field.now.name.now (P.said field.now.piece))
+        ≤ vec_capacity out.old }
+    ensures items { out.new.items
+        ≡ out.old.items ++ some_text later field.now.name.now (P.said field.now.piece) }
+    ensures len { vec_len out.new
+        ≡ vec_len out.old + length (some_text later field.now.name.now (P.said field.now.piece)) }
     ensures room { vec_capacity out.old ≤ vec_capacity out.new }
     ensures later { result ≡ (is_some (P.said field.now.piece) || later) }
 {
@@ -158,9 +170,12 @@ fn put_field<P: Shown>(out: &mut Vec<u8>, later: bool, field: &Field<P>) -> bool
 
 #[tactic(auto, unfolding(crate::specs::Texts::member_text))]
 pub(crate) fn put_member<P: Shown>(out: &mut Vec<u8>, later: bool, name: &str, piece: &P)
-    requires { vec_len out.old + length (member_text later name.now (text_of (P.said piece.now))) ≤ vec_capacity out.old }
-    ensures items { out.new.items ≡ out.old.items ++ member_text later name.now (text_of (P.said piece.now)) }
-    ensures len { vec_len out.new ≡ vec_len out.old + length (member_text later name.now (text_of (P.said piece.now))) }
+    requires { vec_len out.old + length (member_text later name.now (text_of (P.said piece.now)))
+        ≤ vec_capacity out.old }
+    ensures items { out.new.items
+        ≡ out.old.items ++ member_text later name.now (text_of (P.said piece.now)) }
+    ensures len { vec_len out.new
+        ≡ vec_len out.old + length (member_text later name.now (text_of (P.said piece.now))) }
     ensures room { vec_capacity out.old ≤ vec_capacity out.new }
 {
     put_comma(out, later);
@@ -183,7 +198,8 @@ fn braced_len<P: Shown>(fields: &[Field<P>]) -> u64
 
 #[tactic(auto, using(crate::proofs::Steps::some_there, crate::proofs::Steps::some_absent))]
 fn field_len<P: Shown>(later: bool, field: &Field<P>) -> u64
-    ensures { result ≡ saturated (length (some_text later field.now.name.now (P.said field.now.piece))) }
+    ensures { result ≡ saturated
+        (length (some_text later field.now.name.now (P.said field.now.piece))) }
 {
     if field.piece.is_there() {
         member_len(later, field.name, &field.piece)
@@ -194,7 +210,8 @@ fn field_len<P: Shown>(later: bool, field: &Field<P>) -> u64
 
 #[tactic(auto, unfolding(crate::specs::Texts::member_text))]
 pub(crate) fn member_len<P: Shown>(later: bool, name: &str, piece: &P) -> u64
-    ensures { result ≡ saturated (length (member_text later name.now (text_of (P.said piece.now)))) }
+    ensures { result ≡ saturated
+        (length (member_text later name.now (text_of (P.said piece.now)))) }
 {
     let before = quoted_len(name.as_bytes()).saturating_add(1);
     before

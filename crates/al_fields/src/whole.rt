@@ -38,9 +38,11 @@ fn single(alloc: Global, name: &str, value: Value) -> Result<Value, AllocError>
 /// Writes the text of that object, if there is one. It takes no memory.
 #[tactic(auto, using(crate::proofs::Steps::whole_text, crate::proofs::Steps::whole_absent))]
 pub fn put_whole<P: Shown>(out: &mut Vec<u8>, name: &str, piece: &P)
-    requires { vec_len out.old + length (text_of (whole name.now (P.said piece.now))) ≤ vec_capacity out.old }
+    requires { vec_len out.old + length (text_of (whole name.now (P.said piece.now)))
+        ≤ vec_capacity out.old }
     ensures items { out.new.items ≡ out.old.items ++ text_of (whole name.now (P.said piece.now)) }
-    ensures len { vec_len out.new ≡ vec_len out.old + length (text_of (whole name.now (P.said piece.now))) }
+    ensures len { vec_len out.new
+        ≡ vec_len out.old + length (text_of (whole name.now (P.said piece.now))) }
     ensures room { vec_capacity out.old ≤ vec_capacity out.new }
 {
     if piece.is_there() {
@@ -49,9 +51,12 @@ pub fn put_whole<P: Shown>(out: &mut Vec<u8>, name: &str, piece: &P)
 }
 
 fn put_single<P: Shown>(out: &mut Vec<u8>, name: &str, piece: &P)
-    requires { vec_len out.old + length (single_text name.now (text_of (P.said piece.now))) ≤ vec_capacity out.old }
-    ensures items { out.new.items ≡ out.old.items ++ single_text name.now (text_of (P.said piece.now)) }
-    ensures len { vec_len out.new ≡ vec_len out.old + length (single_text name.now (text_of (P.said piece.now))) }
+    requires { vec_len out.old + length (single_text name.now (text_of (P.said piece.now)))
+        ≤ vec_capacity out.old }
+    ensures items { out.new.items
+        ≡ out.old.items ++ single_text name.now (text_of (P.said piece.now)) }
+    ensures len { vec_len out.new
+        ≡ vec_len out.old + length (single_text name.now (text_of (P.said piece.now))) }
     ensures room { vec_capacity out.old ≤ vec_capacity out.new }
 {
     put_byte(out, b'{');
@@ -62,7 +67,8 @@ fn put_single<P: Shown>(out: &mut Vec<u8>, name: &str, piece: &P)
 /// How long that text is, or the greatest number where it is longer.
 #[tactic(auto, using(crate::proofs::Steps::whole_long, crate::proofs::Steps::whole_absent))]
 pub fn whole_len<P: Shown>(name: &str, piece: &P) -> Option<u64>
-    ensures { result ≡ option_map (λ d. saturated (length (compact_text d))) (whole name.now (P.said piece.now)) }
+    ensures { result ≡ option_map (λ d.
+        saturated (length (compact_text d))) (whole name.now (P.said piece.now)) }
 {
     if piece.is_there() {
         Some(single_len(name, piece))

@@ -8,7 +8,8 @@ use Rattle.std.proofs.lemmas.List.{take_at, drop_at, take-append-drop, length-ap
 use Rattle.std.proofs.lemmas.Nat.{be_bytes_2, be_bytes_8, from_be_bytes-to_be_bytes_2, from_be_bytes-to_be_bytes_8}
 use Rattle.al_frame.specs.declared.fault.FrameFault.{FrameFault}
 use Rattle.al_frame.specs.declared.fault.FrameFault.TheVariants.{Truncated, Byte}
-use Rattle.al_frame.specs.Formats.{Format, and_then, both, byte, byte_at, bytes_at, checked, coded, each_at, list, named, number, number_at, opt, opt_at, passed, piece, piece_at, seen, spelled_each, spelled_opt, fits_opt, text}
+use Rattle.al_frame.specs.Formats.{Format, both, byte, byte_at, bytes_at, checked, coded, each_at, list, named, number, number_at, opt, opt_at, passed, piece, piece_at, seen, spelled_each, spelled_opt, fits_opt, text}
+use Rattle.al_base.specs.Answers.{and_then}
 
 -- ---- steps
 

@@ -6,7 +6,7 @@ use Rattle.std.specs.Int.{w16, w64}
 use Rattle.std.proofs.lemmas.Bool.{and_parts, and_from, eqb-true, ne_eqb, leb-true, le-leb, lt-ltb, ltb-true}
 use Rattle.std.proofs.lemmas.List.{nil_from_length}
 use Rattle.al_base.specs.Identifiers.{is_type_name}
-use Rattle.al_base.specs.Limits.{is_age, is_operator_name, is_text}
+use Rattle.al_base.specs.Limits.{is_age, is_operator_name, is_severity_set, is_stamp, is_text}
 use Rattle.al_base.specs.declared.event_type.EventType.{EventType}
 use Rattle.al_base.specs.declared.event_type.EventType.TheVariants.{Other, CommunicationsAlarm, QualityOfServiceAlarm, ProcessingErrorAlarm, EquipmentAlarm, EnvironmentalAlarm, IntegrityViolation, OperationalViolation, PhysicalViolation, SecurityServiceOrMechanismViolation, TimeDomainViolation}
 use Rattle.al_base.specs.declared.operator.OperatorState.{OperatorState}
@@ -24,15 +24,21 @@ use Rattle.al_model.specs.declared.event.Side.TheVariants as sides
 use Rattle.al_notify.specs.declared.rule.Mode.{Mode}
 use Rattle.al_notify.specs.declared.rule.Mode.TheVariants.{AllStateChanges, RaiseAndClear, SeverityLevel}
 use Rattle.al_select.specs.declared.purge.Clearance.{Clearance}
-use Rattle.al_select.specs.declared.purge.Clearance.TheVariants as clearances
+use Rattle.al_select.specs.declared.purge.Clearance.TheVariants as of_clearance
 use Rattle.al_select.specs.declared.purge.Compare.{Compare}
 use Rattle.al_select.specs.declared.purge.Compare.TheVariants.{Below, Equal, Above}
 use Rattle.al_shelf.specs.Same.{same_type_match}
 use Rattle.al_frame.specs.declared.fault.FrameFault.{FrameFault}
 use Rattle.al_frame.specs.declared.fault.FrameFault.TheVariants.{Truncated, Byte, Trailing}
-use Rattle.al_frame.specs.Codes.{with_code, clearance_code, clearances_known, compare_code, comparisons, event_type_code, event_types, flag_code, flags, mode_code, modes, both_sides, side_code, severities, severity_code, state_code, states, status_code, statuses}
-use Rattle.al_frame.specs.Formats.{Format, and_then, both, byte, byte_at, checked, coded, list, named, number, opt, piece, repeats, seen, set, text}
-use Rattle.al_frame.specs.Forms.{is_match, is_operators, is_pattern_text, is_severity_set, is_stamp}
+use Rattle.al_frame.specs.Codes.{with_code, compare_code, comparisons, flag_code, flags, both_sides, side_code, severity_code, status_code}
+use Rattle.al_base.specs.Names.{event_type_number, event_types, severities, state_number, states, statuses}
+use Rattle.al_select.specs.Clearances.{clearance_number, clearances}
+use Rattle.al_notify.specs.Modes.{mode_number, modes}
+use Rattle.al_frame.specs.Formats.{Format, both, byte, byte_at, checked, coded, list, named, number, opt, piece, seen, set, text}
+use Rattle.al_base.specs.Answers.{and_then}
+use Rattle.al_base.specs.Repeats.{repeats}
+use Rattle.al_ids.specs.Forms.{is_match, is_pattern_text}
+use Rattle.al_base.specs.Operators.{is_operators}
 use Rattle.al_frame.specs.Frames.{asked, asked_at, spelled_asked, compress, compressed, criterion, entry, entry_of, event, event_at, event_by, fits_event, frame_of, identity, inventory, is_max, key, kind_at, kind_of, makes_inventory, max_code, max_of, maximum, operate, operated, placed_shelf, purge, purged, qualifier, report, reported, resource, resource_match, row, rule, severity, shelf, shelf_dropped, shelf_name, shelf_put, side, sided_compress, sided_purge, spelled_fields, type_name, whole_at, word}
 use Rattle.al_frame.proofs.FormatLaws.{bind_ok, both_is, byte_is, checked_is, coded_is, IsBytes, IsBytes-rest, IsCode, IsFormat, list_is, named_ok, number_is, ok_is, opt_is, pass_ok, piece_is, seen_is, Takes, Takes-then, where_cut, wide16, wide64}
 
@@ -79,28 +85,28 @@ byte_status (Active Minor) = refl
 byte_status (Active Major) = refl
 byte_status (Active Critical) = refl
 
-state_is : IsFormat (word state_code states)
-state_is = word_is state_code states
+state_is : IsFormat (word state_number states)
+state_is = word_is state_number states
     (elim [ None0 ↦ refl | Ack ↦ refl | Closed ↦ refl | Shelved ↦ refl | UnShelved ↦ refl ])
     (elim [ None0 ↦ refl | Ack ↦ refl | Closed ↦ refl | Shelved ↦ refl | UnShelved ↦ refl ])
 
-mode_is : IsFormat (word mode_code modes)
-mode_is = word_is mode_code modes
+mode_is : IsFormat (word mode_number modes)
+mode_is = word_is mode_number modes
     (elim [ AllStateChanges ↦ refl | RaiseAndClear ↦ refl | SeverityLevel ↦ refl ])
     (elim [ AllStateChanges ↦ refl | RaiseAndClear ↦ refl | SeverityLevel ↦ refl ])
 
 side_is : IsFormat side
 side_is = word_is side_code both_sides (elim [ sides.List ↦ refl | sides.Shelf ↦ refl ]) (elim [ sides.List ↦ refl | sides.Shelf ↦ refl ])
 
-clearance_is : IsFormat (word clearance_code clearances_known)
-clearance_is = word_is clearance_code clearances_known
-    (elim [ clearances.Any ↦ refl | clearances.Cleared ↦ refl | clearances.NotCleared ↦ refl ])
-    (elim [ clearances.Any ↦ refl | clearances.Cleared ↦ refl | clearances.NotCleared ↦ refl ])
+clearance_is : IsFormat (word clearance_number clearances)
+clearance_is = word_is clearance_number clearances
+    (elim [ of_clearance.Any ↦ refl | of_clearance.Cleared ↦ refl | of_clearance.NotCleared ↦ refl ])
+    (elim [ of_clearance.Any ↦ refl | of_clearance.Cleared ↦ refl | of_clearance.NotCleared ↦ refl ])
 
 flag_is : IsFormat (word flag_code flags)
 flag_is = word_is flag_code flags (elim [ false ↦ refl | true ↦ refl ]) (elim [ false ↦ refl | true ↦ refl ])
 
-coded_event_type : AreCoded event_type_code event_types
+coded_event_type : AreCoded event_type_number event_types
 coded_event_type Other = refl
 coded_event_type CommunicationsAlarm = refl
 coded_event_type QualityOfServiceAlarm = refl
@@ -113,7 +119,7 @@ coded_event_type PhysicalViolation = refl
 coded_event_type SecurityServiceOrMechanismViolation = refl
 coded_event_type TimeDomainViolation = refl
 
-byte_event_type : AreBytes event_type_code
+byte_event_type : AreBytes event_type_number
 byte_event_type Other = refl
 byte_event_type CommunicationsAlarm = refl
 byte_event_type QualityOfServiceAlarm = refl
@@ -142,7 +148,7 @@ report_is = both_is _ _ key_is (both_is _ _ (word_is status_code statuses coded_
 operate_is : IsFormat operate
 unfolding operate
 operate_is =
-    both_is _ _ key_is (both_is _ _ (checked_is is_operators (word state_code states) state_is)
+    both_is _ _ key_is (both_is _ _ (checked_is is_operators (word state_number states) state_is)
     (both_is _ _ (text_is is_operator_name) (opt_is _ (text_is (is_text 0 255)))))
 
 -- ---- the rules of the list
@@ -265,7 +271,7 @@ row_is =
     seen_is _ _ _ (λ r. refl) (λ p. refl)
     (both_is _ _ (text_is is_type_name) (both_is _ _ (text_is (is_text 0 255)) (both_is _ _ (list_is 64 resource (omega arith) (text_is (is_text 1 512)))
     (both_is _ _ flag_is (both_is _ _ (checked_is is_severity_set byte byte_is) (both_is _ _ (text_is (is_text 0 255))
-    (word_is event_type_code event_types coded_event_type byte_event_type)))))))
+    (word_is event_type_number event_types coded_event_type byte_event_type)))))))
 
 inventory_is : IsFormat inventory
 unfolding inventory

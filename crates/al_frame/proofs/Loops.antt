@@ -2,7 +2,8 @@
 use Rattle.std.proofs.Common.{◌≡◌, ℕ, suc, ◌-◌, ◌+◌, ◌<◌, List, [], ◌∷◌, ◌++◌, Result, Ok, Err, refl, sym, ap, ◌∙◌, append_assoc, arith}
 use Rattle.al_frame.specs.declared.fault.FrameFault.{FrameFault}
 use Rattle.al_frame.specs.declared.fault.FrameFault.TheVariants.{Truncated, Byte, Trailing, Memory}
-use Rattle.al_frame.specs.Formats.{and_then, each_at, IsFault}
+use Rattle.al_frame.specs.Formats.{each_at, IsFault}
+use Rattle.al_base.specs.Answers.{and_then}
 
 -- what was read before, and what is still read
 abbrev pub with_front : {A : Type 0} → List A → Result (List A × List ℕ) FrameFault → Result (List A × List ℕ) FrameFault

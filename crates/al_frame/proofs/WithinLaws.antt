@@ -9,13 +9,15 @@ use Rattle.std.proofs.lemmas.Bool.{false≢true, ltb-true, lt-ltb, leb-true, le-
 use Rattle.std.proofs.lemmas.Bool.Decides.{Decides-and, Decides-at, Decides-like, Decides-ltb, Decides-not, Decides-by_and}
 use Rattle.al_base.proofs.FormTests.{decides_age, decides_le, decides_operator_name, decides_text, decides_type_name}
 use Rattle.al_base.specs.Identifiers.{IsTypeName, is_type_name}
-use Rattle.al_base.specs.Limits.{IsAge, IsText, age_units, is_age, is_operator_name, is_text, last_stamp, IsResourceText, IsStatusChanges}
+use Rattle.al_base.specs.Limits.{IsAge, IsResourceText, IsStatusChanges, IsText, age_units, is_age, is_operator_name, is_severity_set, is_stamp, is_text, last_stamp}
 use Rattle.al_base.specs.declared.operator.OperatorState.{OperatorState}
 use Rattle.al_base.specs.declared.operator.OperatorState.TheVariants.{None0, Ack, Closed, Shelved, UnShelved}
 use Rattle.al_base.specs.declared.severity.Status.{Status}
 use Rattle.al_ids.specs.Matches.{IsMatch}
 use Rattle.al_ids.specs.declared.key.AlarmKey.{AlarmKey}
-use Rattle.al_model.specs.Limits.{IsKeyWithin, IsReportWithin, IsOperators, IsOperateWithin, IsPatternWithin, IsTypeMatchWithin, IsShelfWithin, IsPutWithin, IsPurgeWithin, IsCompressWithin, IsIdentityWithin, IsRowWithin, IsInventoryWithin, IsEventWithin, IsEntryWithin}
+use Rattle.al_model.specs.Limits.{IsReportWithin, IsOperateWithin, IsPatternWithin, IsTypeMatchWithin, IsShelfWithin, IsPutWithin, IsPurgeWithin, IsCompressWithin, IsIdentityWithin, IsRowWithin, IsInventoryWithin, IsEventWithin, IsEntryWithin}
+use Rattle.al_ids.specs.Limits.{IsKeyWithin}
+use Rattle.al_base.specs.Operators.{IsOperators, is_operators}
 use Rattle.al_model.specs.declared.entry.Entry.{Entry}
 use Rattle.al_model.specs.declared.event.Event.{Event}
 use Rattle.al_model.specs.declared.event.Event.TheVariants as events
@@ -31,11 +33,12 @@ use Rattle.al_types.specs.Inventories.{InventoryView}
 use Rattle.al_types.specs.Sound.{is_sound}
 use Rattle.al_types.specs.declared.row.Identity.{Identity}
 use Rattle.al_types.specs.declared.row.Row.{Row}
-use Rattle.al_frame.specs.Formats.{Format, checked, fits_opt, list, number, opt, repeats, set, text}
-use Rattle.al_frame.specs.Forms.{is_match, is_operators, is_pattern_text, is_severity_set, is_stamp}
+use Rattle.al_frame.specs.Formats.{Format, checked, fits_opt, list, number, opt, set, text}
+use Rattle.al_base.specs.Repeats.{repeats}
+use Rattle.al_ids.specs.Forms.{is_match, is_pattern_text}
 use Rattle.al_frame.specs.Frames.{compress, criterion, entry, fits_event, identity, inventory, is_max, key, makes_inventory, maximum, operate, placed_shelf, purge, report, resource, resource_match, row, rule, shelf, shelf_name, sided_compress, sided_purge, type_name}
-use Rattle.al_frame.proofs.MatchTests.{decides_match}
-use Rattle.al_frame.proofs.TextTests.{decides_pattern}
+use Rattle.al_ids.proofs.MatchTests.{decides_match}
+use Rattle.al_frame.proofs.PatternTests.{decides_pattern}
 
 -- ---- parts
 

@@ -2,15 +2,14 @@
 use Rattle.std.specs.Prelude.{◌≡◌, ℕ, zero, suc, ◌-◌, ◌^◌, ⊤, Bool, true, false, not, ◌&&◌, ◌||◌, nat_lt, nat_le, if◌then◌else◌, List, [], ◌∷◌, ◌++◌, length, take, drop, Option, Some, None, Result, Ok, Err}
 use Rattle.std.specs.Int.{Width, w16, byte_len, from_be_bytes, to_be_bytes}
 use Rattle.std.specs.List.{list_all, list_any}
+use Rattle.al_base.specs.declared.form.FormFault.{FormFault}
+use Rattle.al_base.specs.declared.form.FormFault.TheVariants as forms
 use Rattle.al_frame.specs.declared.fault.FrameFault.{FrameFault}
 use Rattle.al_frame.specs.declared.fault.FrameFault.TheVariants.{Truncated, Byte, Trailing, Memory}
+use Rattle.al_base.specs.Repeats.{repeats}
+use Rattle.al_base.specs.Answers.{and_then}
 
 -- ---- answers
-
--- the second step, where the first has no fault
-abbrev pub and_then : {A B : Type 0} → Result A FrameFault → (A → Result B FrameFault) → Result B FrameFault
-and_then (Ok a) next = next a
-and_then (Err fault) next = Err fault
 
 -- What was said is this fault, or the fault is want of memory, which no bytes have.
 abbrev pub IsFault : {B : Type 0} → Result B FrameFault → FrameFault → Type 0
@@ -23,6 +22,12 @@ IsFault said Memory = ⊤
 abbrev pub Gives : {A B : Type 0} → (A → B) → Result A FrameFault → Result B FrameFault → Type 0
 Gives view (Ok a) said = said ≡ Ok (view a)
 Gives view (Err fault) said = IsFault said fault
+
+-- the answer of a reading of the field that begins at this place
+abbrev pub faulted : {A : Type 0} → ℕ → Result A FormFault → Result A FrameFault
+faulted place (Ok a) = Ok a
+faulted place (Err forms.Form) = Err (Byte place)
+faulted place (Err forms.Memory) = Err Memory
 
 -- ---- readers
 
@@ -143,11 +148,6 @@ list most f = record {
   spell = λ xs. to_be_bytes w16 (length xs) ++ spelled_each f.spell xs;
   fits = λ xs. nat_le (length xs) most && list_all f.fits xs;
 }
-
--- Some member is the same as a later one.
-abbrev pub repeats : {A : Type 0} → (A → A → Bool) → List A → Bool
-repeats same [] = false
-repeats same (x ∷ rest) = list_any (same x) rest || repeats same rest
 
 -- a list without repeats
 abbrev pub set : {A : Type 0} → ℕ → (A → A → Bool) → Format A → Format (List A)

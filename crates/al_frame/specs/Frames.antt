@@ -2,7 +2,7 @@
 use Rattle.std.specs.Prelude.{ℕ, suc, ◌-◌, ◌==◌, ◌&&◌, nat_le, nat_lt, Bool, true, false, if◌then◌else◌, List, [], ◌∷◌, ◌++◌, length, Option, Some, None, Result, Ok, Err}
 use Rattle.std.specs.Int.{w16, w64}
 use Rattle.al_base.specs.Identifiers.{is_type_name}
-use Rattle.al_base.specs.Limits.{is_age, is_operator_name, is_text, longest_alarm_text, longest_description, longest_operator_name, longest_operator_text, longest_qualifier, longest_resource, longest_shelf_name, most_identities, most_row_resources, most_rows, most_shelf_resources, most_shelf_types}
+use Rattle.al_base.specs.Limits.{is_age, is_operator_name, is_severity_set, is_stamp, is_text, longest_alarm_text, longest_description, longest_operator_name, longest_operator_text, longest_qualifier, longest_resource, longest_shelf_name, most_identities, most_row_resources, most_rows, most_shelf_resources, most_shelf_types}
 use Rattle.al_base.specs.declared.event_type.EventType.{EventType}
 use Rattle.al_base.specs.declared.operator.OperatorState.{OperatorState}
 use Rattle.al_base.specs.declared.severity.Severity.{Severity}
@@ -26,9 +26,14 @@ use Rattle.al_types.specs.declared.row.Identity.{Identity}
 use Rattle.al_types.specs.declared.row.Row.{Row}
 use Rattle.al_frame.specs.declared.fault.FrameFault.{FrameFault}
 use Rattle.al_frame.specs.declared.fault.FrameFault.TheVariants.{Truncated, Byte, Trailing}
-use Rattle.al_frame.specs.Codes.{with_code, clearance_code, clearances_known, compare_code, comparisons, event_type_code, event_types, flag_code, flags, mode_code, modes, both_sides, side_code, severities, severity_code, state_code, states, status_code, statuses}
-use Rattle.al_frame.specs.Formats.{Format, and_then, byte, both, byte_at, checked, coded, list, named, number, opt, seen, set, text}
-use Rattle.al_frame.specs.Forms.{is_match, is_operators, is_pattern_text, is_severity_set, is_stamp}
+use Rattle.al_frame.specs.Codes.{with_code, compare_code, comparisons, flag_code, flags, both_sides, side_code, severity_code, status_code}
+use Rattle.al_base.specs.Names.{event_type_number, event_types, severities, state_number, states, statuses}
+use Rattle.al_select.specs.Clearances.{clearance_number, clearances}
+use Rattle.al_notify.specs.Modes.{mode_number, modes}
+use Rattle.al_frame.specs.Formats.{Format, byte, both, byte_at, checked, coded, list, named, number, opt, seen, set, text}
+use Rattle.al_base.specs.Answers.{and_then}
+use Rattle.al_ids.specs.Forms.{is_match, is_pattern_text}
+use Rattle.al_base.specs.Operators.{is_operators}
 
 -- ---- texts, numbers and words
 
@@ -63,7 +68,7 @@ unfoldable pub report : Format (AlarmKey × (Status × List ℕ))
 report = both key (both (word status_code statuses) (text (is_text 0 longest_alarm_text)))
 
 unfoldable pub operate : Format (AlarmKey × (OperatorState × (List ℕ × Option (List ℕ))))
-operate = both key (both (checked is_operators (word state_code states)) (both (text is_operator_name) (opt (text (is_text 0 longest_operator_text)))))
+operate = both key (both (checked is_operators (word state_number states)) (both (text is_operator_name) (opt (text (is_text 0 longest_operator_text)))))
 
 -- ---- the rules of the list
 
@@ -83,7 +88,7 @@ unfoldable pub maximum : Format (Option ℕ)
 maximum = coded max_of max_code is_max (number w16)
 
 unfoldable pub rule : Format NotifyRule
-rule = seen (λ p. record { mode = p.0; level = p.1 }) (λ r. (r.mode, r.level)) (both (word mode_code modes) severity)
+rule = seen (λ p. record { mode = p.0; level = p.1 }) (λ r. (r.mode, r.level)) (both (word mode_number modes) severity)
 
 -- ---- shelves
 
@@ -121,8 +126,8 @@ unfoldable pub purge : Format PurgeFilter
 purge = seen
     (λ p. record { clearance = p.0; age = p.1.0; severity = p.1.1.0; state = p.1.1.1.0; user = p.1.1.1.1 })
     (λ f. (f.clearance, (f.age, (f.severity, (f.state, f.user)))))
-    (both (word clearance_code clearances_known) (both (opt (checked is_age (number w64)))
-    (both asked (both (opt (word state_code states)) (opt (text (is_text 0 longest_operator_name)))))))
+    (both (word clearance_number clearances) (both (opt (checked is_age (number w64)))
+    (both asked (both (opt (word state_number states)) (opt (text (is_text 0 longest_operator_name)))))))
 
 unfoldable pub compress : Format CompressFilter
 compress = seen
@@ -151,7 +156,7 @@ row = seen
     })
     (λ r. (r.type_id, (r.qualifier, (r.resources, (r.will_clear, (r.severities, (r.description, r.event_type)))))))
     (both type_name (both qualifier (both (list most_row_resources resource) (both (word flag_code flags)
-    (both (checked is_severity_set byte) (both (text (is_text 0 longest_description)) (word event_type_code event_types)))))))
+    (both (checked is_severity_set byte) (both (text (is_text 0 longest_description)) (word event_type_number event_types)))))))
 
 abbrev pub makes_inventory : List Identity × List Row → Bool
 makes_inventory lists = is_sound lists.0 lists.1

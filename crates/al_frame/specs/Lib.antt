@@ -1,4 +1,3 @@
 pub mod Codes
 pub mod Formats
-pub mod Forms
 pub mod Frames

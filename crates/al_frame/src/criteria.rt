@@ -9,13 +9,20 @@ use crate::field::{Field, Opt};
 use crate::list::SetOf;
 use crate::number::u8_at;
 use crate::text::{MatchText, PatternText, TextOf, TypeName};
+use al_base::limits::{
+    LONGEST_DESCRIPTION, LONGEST_SHELF_NAME, MOST_SHELF_RESOURCES, MOST_SHELF_TYPES,
+};
 use al_model::Event;
 use al_shelf::{Shelf, TypeMatch};
 use std::alloc::{AllocError, Global};
 
-pub type ShelfName = TextOf<1, 64>;
+pub type ShelfName = TextOf<1, LONGEST_SHELF_NAME>;
 
-type Description = Opt<TextOf<0, 255>>;
+type Resources = SetOf<MatchText, MOST_SHELF_RESOURCES>;
+
+type Types = SetOf<Criterion, MOST_SHELF_TYPES>;
+
+type Description = Opt<TextOf<0, LONGEST_DESCRIPTION>>;
 
 /// A criterion on the alarm's type.
 pub struct Criterion;
@@ -55,8 +62,8 @@ impl Field for ShelfFields {
     #[tactic(auto, unfolding(crate::specs::Frames::shelf))]
     fn read(alloc: Global, n: usize, bytes: &[u8]) -> Result<(Shelf, &[u8]), FrameFault> {
         let (name, rest) = ShelfName::read(alloc, n, bytes)?;
-        let (resources, rest) = SetOf::<MatchText, 64>::read(alloc, n, rest)?;
-        let (types, rest) = SetOf::<Criterion, 64>::read(alloc, n, rest)?;
+        let (resources, rest) = Resources::read(alloc, n, rest)?;
+        let (types, rest) = Types::read(alloc, n, rest)?;
         let (description, rest) = Description::read(alloc, n, rest)?;
         let shelf = Shelf {
             name,
@@ -70,16 +77,16 @@ impl Field for ShelfFields {
     #[tactic(auto, unfolding(crate::specs::Frames::shelf))]
     fn len(shelf: &Shelf) -> usize {
         ShelfName::len(&shelf.name)
-            .saturating_add(SetOf::<MatchText, 64>::len(&shelf.resources))
-            .saturating_add(SetOf::<Criterion, 64>::len(&shelf.types))
+            .saturating_add(Resources::len(&shelf.resources))
+            .saturating_add(Types::len(&shelf.types))
             .saturating_add(Description::len(&shelf.description))
     }
 
     #[tactic(auto, unfolding(crate::specs::Frames::shelf))]
     fn put(shelf: &Shelf, out: &mut Vec<u8>) -> Result<(), AllocError> {
         ShelfName::put(&shelf.name, out)?;
-        SetOf::<MatchText, 64>::put(&shelf.resources, out)?;
-        SetOf::<Criterion, 64>::put(&shelf.types, out)?;
+        Resources::put(&shelf.resources, out)?;
+        Types::put(&shelf.types, out)?;
         Description::put(&shelf.description, out)
     }
 }

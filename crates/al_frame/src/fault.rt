@@ -1,6 +1,8 @@
+ghost use Rattle.al_frame.specs.Formats.{faulted};
 ghost use Rattle.std.specs.Prelude.{◌≡◌};
 ghost use Rattle.al_frame.specs.declared.fault.FrameFault.TheVariants.{Memory};
 
+use al_base::FormFault;
 use std::alloc::{AllocError, AllocFailed};
 use std::error::Error;
 use std::fmt;
@@ -16,6 +18,17 @@ pub enum FrameFault {
     Trailing(usize),
     /// There was no memory for the entry.
     Memory,
+}
+
+/// What was read for the field that begins at this place, with the field's fault.
+pub(crate) fn at<T>(place: usize, read: Result<T, FormFault>) -> Result<T, FrameFault>
+    ensures { result ≡ faulted place read }
+{
+    match read {
+        Ok(value) => Ok(value),
+        Err(FormFault::Form) => Err(FrameFault::Byte(place)),
+        Err(FormFault::Memory) => Err(FrameFault::Memory),
+    }
 }
 
 impl From<AllocError> for FrameFault {

@@ -12,6 +12,7 @@ use crate::number::{bad, put_u64, u64_at};
 use crate::report::Qualifier;
 use crate::text::{MatchText, TextOf, TypeName};
 use crate::word::{Coded, Word};
+use al_base::limits::{LONGEST_OPERATOR_NAME, MOST_AGE_UNITS};
 use al_base::{OperatorState, Severity};
 use al_model::{Event, Side};
 use al_select::{Clearance, Compare, CompressFilter, PurgeFilter};
@@ -52,7 +53,7 @@ fn is_age(age: u64) -> bool
 {
     AGE_UNITS
         .iter()
-        .any(|unit| age % unit == 0 && age / unit <= 65535)
+        .any(|unit| age % unit == 0 && age / unit <= MOST_AGE_UNITS)
 }
 
 /// How an alarm's severity has to stand to another: 0 where nothing is asked.
@@ -103,7 +104,7 @@ impl Field for Asked {
 
 type State = Opt<Coded<OperatorState>>;
 
-type User = Opt<TextOf<0, 64>>;
+type User = Opt<TextOf<0, LONGEST_OPERATOR_NAME>>;
 
 /// Which alarms a purge removes.
 pub struct PurgeFields;
@@ -203,7 +204,8 @@ pub fn compress_at(alloc: Global, n: usize, bytes: &[u8]) -> Result<(Event, &[u8
 
 pub fn put_purge(side: &Side, filter: &PurgeFilter, out: &mut Vec<u8>) -> Result<(), AllocError>
     requires { sided_purge.fits (side.now, filter.now) ≡ true }
-    ensures { OnOk result (out.new.items ≡ out.old.items ++ sided_purge.spell (side.now, filter.now)) }
+    ensures { OnOk result (out.new.items
+        ≡ out.old.items ++ sided_purge.spell (side.now, filter.now)) }
 {
     Coded::<Side>::put(side, out)?;
     PurgeFields::put(filter, out)
@@ -215,7 +217,8 @@ pub fn put_compress(
     out: &mut Vec<u8>,
 ) -> Result<(), AllocError>
     requires { sided_compress.fits (side.now, filter.now) ≡ true }
-    ensures { OnOk result (out.new.items ≡ out.old.items ++ sided_compress.spell (side.now, filter.now)) }
+    ensures { OnOk result (out.new.items
+        ≡ out.old.items ++ sided_compress.spell (side.now, filter.now)) }
 {
     Coded::<Side>::put(side, out)?;
     CompressFields::put(filter, out)

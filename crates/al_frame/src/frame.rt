@@ -36,7 +36,8 @@ pub fn decode(alloc: Global, bytes: &[u8]) -> Result<Entry, FrameFault>
     // What is read is an entry within limits, and the bytes are its frame.
     ensures found { IfOk result (λ entry. IsEntryWithin entry × (bytes.now ≡ frame_of entry)) }
     // The frame of an entry within limits is read as it, unless memory runs out.
-    ensures only { (entry : Entry) → IsEntryWithin entry → bytes.now ≡ frame_of entry → Gives (λ entry. entry) result (Ok entry) }
+    ensures only { (entry : Entry) → IsEntryWithin entry → bytes.now ≡ frame_of entry
+        → Gives (λ entry. entry) result (Ok entry) }
 {
     whole(alloc, bytes)
 }

@@ -1,7 +1,7 @@
 //! Inventories, their identities and their rows.
 
 ghost use Rattle.al_frame.specs.Formats.{Gives, checked, passed};
-ghost use Rattle.al_frame.specs.Forms.{is_severity_set};
+ghost use Rattle.al_base.specs.Limits.{is_severity_set};
 ghost use Rattle.al_frame.specs.Frames.{identity, inventory, makes_inventory, row};
 
 use crate::fault::FrameFault;
@@ -11,17 +11,20 @@ use crate::number::{bad, place, u8_at};
 use crate::report::Qualifier;
 use crate::text::{TextOf, TypeName};
 use crate::word::Coded;
+use al_base::limits::{
+    LONGEST_DESCRIPTION, LONGEST_RESOURCE, MOST_IDENTITIES, MOST_ROW_RESOURCES, MOST_ROWS,
+};
 use al_base::{EventType, List};
 use al_types::{Identity, Inventory, InventoryFault, Row};
 use std::alloc::{AllocError, Global};
 
-type Resources = ListOf<TextOf<1, 512>, 64>;
+type Resources = ListOf<TextOf<1, LONGEST_RESOURCE>, MOST_ROW_RESOURCES>;
 
-type Description = TextOf<0, 255>;
+type Description = TextOf<0, LONGEST_DESCRIPTION>;
 
-type Identities = ListOf<IdentityFields, 2000>;
+type Identities = ListOf<IdentityFields, MOST_IDENTITIES>;
 
-type Rows = ListOf<RowFields, 2000>;
+type Rows = ListOf<RowFields, MOST_ROWS>;
 
 /// A declared alarm type.
 pub struct IdentityFields;
@@ -163,14 +166,15 @@ impl Field for InventoryFields {
 }
 
 /// The inventory of these lists, if they make one. The fault is at this place.
-#[tactic(auto, using(crate::proofs::InventoryTests::sound_holds, crate::proofs::InventoryTests::unsound_fails), unfolding(crate::specs::Formats::passed))]
+#[tactic(auto, using(al_types::proofs::InventoryTests::sound_holds, al_types::proofs::InventoryTests::unsound_fails), unfolding(crate::specs::Formats::passed))]
 fn inventory_of(
     alloc: Global,
     place: usize,
     identities: List<Identity>,
     rows: List<Row>,
 ) -> Result<Inventory, FrameFault>
-    ensures { Gives (λ i. (i.identities, i.rows)) result (passed makes_inventory place (identities, rows)) }
+    ensures { Gives (λ i. (i.identities, i.rows)) result (passed makes_inventory place (identities,
+        rows)) }
 {
     match Inventory::build(alloc, identities.into_vec(), rows.into_vec()) {
         Ok(inventory) => Ok(inventory),

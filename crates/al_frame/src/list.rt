@@ -1,21 +1,23 @@
 //! Lists of fields: a count, and that many values.
 
-ghost use Rattle.al_frame.specs.Formats.{Gives, checked, each_at, list, number, repeats, set, spelled_each};
+ghost use Rattle.al_frame.specs.Formats.{Gives, checked, each_at, list, number, set, spelled_each};
+ghost use Rattle.al_base.specs.Repeats.{repeats};
 ghost use Rattle.std.specs.Int.{to_be_bytes, w16};
-ghost use Rattle.std.specs.List.{list_all, list_any};
+ghost use Rattle.std.specs.List.{list_all};
 ghost use Rattle.std.specs.Prelude.{◌≡◌, ◌≤◌, ◌+◌, ◌++◌, ◌<◌, ◌^◌, true, OnOk, length, min, nat_le};
 
 use crate::fault::FrameFault;
 use crate::field::Field;
 use crate::number::{bad, put_u16, u16_at};
 use al_base::List;
+use al_base::repeats::repeats;
 use std::alloc::{AllocError, Global};
 use std::marker::PhantomData;
 
 /// At most so many values.
-pub struct ListOf<F, const MOST: u16>(PhantomData<F>);
+pub struct ListOf<F, const MOST: usize>(PhantomData<F>);
 
-impl<F: Field, const MOST: u16> Field for ListOf<F, MOST> {
+impl<F: Field, const MOST: usize> Field for ListOf<F, MOST> {
     type Value = List<F::Value>;
 
     ghost format = { list MOST F.format };
@@ -37,11 +39,12 @@ impl<F: Field, const MOST: u16> Field for ListOf<F, MOST> {
 
 /// A count, at most so great.
 #[tactic(auto, unfolding(crate::specs::Formats::passed))]
-fn count_at(n: usize, most: u16, bytes: &[u8]) -> Result<(u16, &[u8]), FrameFault>
-    ensures { Gives (λ x. (x.0, x.1.now)) result ((checked (λ count. nat_le count most) (number w16)).read n bytes.now) }
+fn count_at(n: usize, most: usize, bytes: &[u8]) -> Result<(u16, &[u8]), FrameFault>
+    ensures { Gives (λ x. (x.0, x.1.now)) result
+        ((checked (λ count. nat_le count most) (number w16)).read n bytes.now) }
 {
     let (count, rest) = u16_at(n, bytes)?;
-    if count > most {
+    if usize::from(count) > most {
         return Err(bad(n, bytes));
     }
     Ok((count, rest))
@@ -80,7 +83,9 @@ pub fn each_len<F: Field>(values: &[F::Value]) -> usize
 pub fn put_list<F: Field>(values: &[F::Value], out: &mut Vec<u8>) -> Result<(), AllocError>
     requires few { length values.now < 2 ^ 16 }
     requires fit { list_all F.format.fits values.now ≡ true }
-    ensures { OnOk result (out.new.items ≡ out.old.items ++ (to_be_bytes w16 (length values.now) ++ spelled_each F.format.spell values.now)) }
+    ensures { OnOk result (out.new.items
+        ≡ out.old.items ++ (to_be_bytes w16 (length values.now)
+        ++ spelled_each F.format.spell values.now)) }
 {
     put_u16(values.len() as u16, out)?;
     put_each::<F>(values, out)
@@ -88,7 +93,8 @@ pub fn put_list<F: Field>(values: &[F::Value], out: &mut Vec<u8>) -> Result<(), 
 
 fn put_each<F: Field>(values: &[F::Value], out: &mut Vec<u8>) -> Result<(), AllocError>
     requires { list_all F.format.fits values.now ≡ true }
-    ensures { OnOk result (out.new.items ≡ out.old.items ++ spelled_each F.format.spell values.now) }
+    ensures { OnOk result (out.new.items
+        ≡ out.old.items ++ spelled_each F.format.spell values.now) }
 {
     for value in values {
         F::put(value, out)?;
@@ -97,9 +103,9 @@ fn put_each<F: Field>(values: &[F::Value], out: &mut Vec<u8>) -> Result<(), Allo
 }
 
 /// At most so many values, no two of which are the same.
-pub struct SetOf<F, const MOST: u16>(PhantomData<F>);
+pub struct SetOf<F, const MOST: usize>(PhantomData<F>);
 
-impl<F: Field, const MOST: u16> Field for SetOf<F, MOST>
+impl<F: Field, const MOST: usize> Field for SetOf<F, MOST>
 where
     F::Value: PartialEq,
 {
@@ -123,29 +129,4 @@ where
     fn put(values: &List<F::Value>, out: &mut Vec<u8>) -> Result<(), AllocError> {
         ListOf::<F, MOST>::put(values, out)
     }
-}
-
-/// Whether some value is the same as a later one.
-fn repeats<T: PartialEq>(values: &[T]) -> bool
-    ensures { result ≡ repeats T.eq values.now }
-{
-    let mut rest = values;
-    while let Some((first, later)) = rest.split_first() {
-        if is_in(first, later) {
-            return true;
-        }
-        rest = later;
-    }
-    false
-}
-
-fn is_in<T: PartialEq>(value: &T, values: &[T]) -> bool
-    ensures { result ≡ list_any (T.eq value.now) values.now }
-{
-    for other in values {
-        if value == other {
-            return true;
-        }
-    }
-    false
 }

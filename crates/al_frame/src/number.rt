@@ -90,7 +90,8 @@ pub fn put_u64(number: u64, out: &mut Vec<u8>) -> Result<(), AllocError>
 /// Puts the length of a text before it.
 pub fn put_piece(text: &[u8], out: &mut Vec<u8>) -> Result<(), AllocError>
     requires { length text.now < 2 ^ 16 }
-    ensures { OnOk result (out.new.items ≡ out.old.items ++ (to_be_bytes w16 (length text.now) ++ text.now)) }
+    ensures { OnOk result (out.new.items
+        ≡ out.old.items ++ (to_be_bytes w16 (length text.now) ++ text.now)) }
 {
     put_u16(text.len() as u16, out)?;
     out.extend_from_slice(text)

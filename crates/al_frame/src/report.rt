@@ -9,16 +9,17 @@ use crate::field::{Field, Opt};
 use crate::number::bad;
 use crate::text::{OperatorName, ResourceText, TextOf, TypeName};
 use crate::word::Coded;
+use al_base::limits::{LONGEST_ALARM_TEXT, LONGEST_OPERATOR_TEXT, LONGEST_QUALIFIER};
 use al_base::{OperatorState, Status, Text};
 use al_ids::AlarmKey;
 use al_model::Event;
 use std::alloc::{AllocError, Global};
 
-pub type Qualifier = TextOf<0, 255>;
+pub type Qualifier = TextOf<0, LONGEST_QUALIFIER>;
 
-type AlarmText = TextOf<0, 255>;
+type AlarmText = TextOf<0, LONGEST_ALARM_TEXT>;
 
-type OperatorText = TextOf<0, 255>;
+type OperatorText = TextOf<0, LONGEST_OPERATOR_TEXT>;
 
 /// What identifies an alarm.
 pub struct Key;
@@ -83,7 +84,8 @@ pub fn put_report(
     out: &mut Vec<u8>,
 ) -> Result<(), AllocError>
     requires { report.fits (key.now, (status.now, text.now)) ≡ true }
-    ensures { OnOk result (out.new.items ≡ out.old.items ++ report.spell (key.now, (status.now, text.now))) }
+    ensures { OnOk result (out.new.items
+        ≡ out.old.items ++ report.spell (key.now, (status.now, text.now))) }
 {
     Key::put(key, out)?;
     Coded::<Status>::put(status, out)?;
@@ -96,12 +98,14 @@ struct OperatorsState;
 impl Field for OperatorsState {
     type Value = OperatorState;
 
-    ghost use Rattle.al_frame.specs.Codes.{state_code, states};
+    ghost use Rattle.al_base.specs.Names.{state_number};
+
+    ghost use Rattle.al_base.specs.Names.{states};
     ghost use Rattle.al_frame.specs.Formats.{checked};
-    ghost use Rattle.al_frame.specs.Forms.{is_operators};
+    ghost use Rattle.al_base.specs.Operators.{is_operators};
     ghost use Rattle.al_frame.specs.Frames.{word};
 
-    ghost format = { checked is_operators (word state_code states) };
+    ghost format = { checked is_operators (word state_number states) };
 
     #[tactic(auto, unfolding(crate::specs::Formats::passed))]
     fn read(alloc: Global, n: usize, bytes: &[u8]) -> Result<(OperatorState, &[u8]), FrameFault> {
@@ -145,7 +149,8 @@ pub fn operate_len(
     operator: &Text,
     text: &Option<Text>,
 ) -> usize
-    ensures { result ≡ min usize.MAX (length (operate.spell (key.now, (state.now, (operator.now, text.now))))) }
+    ensures { result ≡ min usize.MAX
+        (length (operate.spell (key.now, (state.now, (operator.now, text.now))))) }
 {
     Key::len(key)
         .saturating_add(OperatorsState::len(state))
@@ -162,7 +167,8 @@ pub fn put_operate(
     out: &mut Vec<u8>,
 ) -> Result<(), AllocError>
     requires { operate.fits (key.now, (state.now, (operator.now, text.now))) ≡ true }
-    ensures { OnOk result (out.new.items ≡ out.old.items ++ operate.spell (key.now, (state.now, (operator.now, text.now)))) }
+    ensures { OnOk result (out.new.items
+        ≡ out.old.items ++ operate.spell (key.now, (state.now, (operator.now, text.now)))) }
 {
     Key::put(key, out)?;
     OperatorsState::put(state, out)?;

@@ -55,7 +55,8 @@ impl<W: Word> Field for Coded<W> {
 }
 
 impl Word for Severity {
-    ghost use Rattle.al_frame.specs.Codes.{severities, severity_code};
+    ghost use Rattle.al_frame.specs.Codes.{severity_code};
+    ghost use Rattle.al_base.specs.Names.{severities};
 
     ghost code_of = { severity_code };
 
@@ -84,7 +85,8 @@ impl Word for Severity {
 }
 
 impl Word for Status {
-    ghost use Rattle.al_frame.specs.Codes.{status_code, statuses};
+    ghost use Rattle.al_frame.specs.Codes.{status_code};
+    ghost use Rattle.al_base.specs.Names.{statuses};
 
     ghost code_of = { status_code };
 
@@ -111,9 +113,9 @@ impl Word for Status {
 }
 
 impl Word for OperatorState {
-    ghost use Rattle.al_frame.specs.Codes.{state_code, states};
+    ghost use Rattle.al_base.specs.Names.{state_number, states};
 
-    ghost code_of = { state_code };
+    ghost code_of = { state_number };
 
     ghost words = { states };
 
@@ -140,9 +142,9 @@ impl Word for OperatorState {
 }
 
 impl Word for Mode {
-    ghost use Rattle.al_frame.specs.Codes.{mode_code, modes};
+    ghost use Rattle.al_notify.specs.Modes.{mode_number, modes};
 
-    ghost code_of = { mode_code };
+    ghost code_of = { mode_number };
 
     ghost words = { modes };
 
@@ -188,11 +190,11 @@ impl Word for Side {
 }
 
 impl Word for Clearance {
-    ghost use Rattle.al_frame.specs.Codes.{clearance_code, clearances_known};
+    ghost use Rattle.al_select.specs.Clearances.{clearance_number, clearances};
 
-    ghost code_of = { clearance_code };
+    ghost code_of = { clearance_number };
 
-    ghost words = { clearances_known };
+    ghost words = { clearances };
 
     fn of(code: u8) -> Option<Clearance> {
         match code {
@@ -258,9 +260,9 @@ impl Word for bool {
 }
 
 impl Word for EventType {
-    ghost use Rattle.al_frame.specs.Codes.{event_type_code, event_types};
+    ghost use Rattle.al_base.specs.Names.{event_type_number, event_types};
 
-    ghost code_of = { event_type_code };
+    ghost code_of = { event_type_number };
 
     ghost words = { event_types };
 

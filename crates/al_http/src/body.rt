@@ -44,7 +44,8 @@ pub fn media_type(content: &Content) -> &'static str
 
 /// The error list with one error.
 fn push_error(buffer: &mut OutputBuffer, row: &ErrorRow)
-    requires { length buffer.old + length row.now.message.now + length row.now.tag.now + length row.now.error_type.now + 100 ≤ output_room }
+    requires { length buffer.old + length row.now.message.now + length row.now.tag.now
+        + length row.now.error_type.now + 100 ≤ output_room }
     ensures { buffer.new ≡ buffer.old ++ error_text (told row.now) }
 {
     buffer.push_text("{\"ietf-restconf:errors\":{\"error\":[{\"error-message\":\"");

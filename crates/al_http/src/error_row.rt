@@ -96,7 +96,8 @@ pub fn error_row(number: u8) -> ErrorRow
     requires { IsErrorRow number }
     ensures row { told result ≡ row_of number }
     ensures phrase { HasPhrase result.status }
-    ensures short { length result.message.now + length result.tag.now + length result.error_type.now ≤ 64 }
+    ensures short { length result.message.now + length result.tag.now + length result.error_type.now
+        ≤ 64 }
 {
     row_at(number)
 }

@@ -69,7 +69,9 @@ fn is_set(allow: u8, bit: u32) -> bool
 /// Adds a method to the list where its bit is set, and answers whether the list has one now.
 fn push_method(buffer: &mut OutputBuffer, has_one: bool, is_allowed: bool, method: &str) -> bool
     requires { length buffer.old + 2 + length method.now ≤ output_room }
-    ensures text { buffer.new ≡ buffer.old ++ (if is_allowed then (if has_one then codes ", " ++ method.now else method.now) else []) }
+    ensures text { buffer.new
+        ≡ buffer.old ++ (if is_allowed then (if has_one then codes ", "
+        ++ method.now else method.now) else []) }
     ensures grown { length buffer.new ≤ length buffer.old + 2 + length method.now }
     ensures one { result ≡ (has_one || is_allowed) }
 {
@@ -121,7 +123,9 @@ fn push_connection(buffer: &mut OutputBuffer, last: bool)
 
 fn push_length(buffer: &mut OutputBuffer, status: u16, len: u64)
     requires { length buffer.old + 60 ≤ output_room }
-    ensures text { buffer.new ≡ buffer.old ++ (if status == 204 then [] else field (codes "Content-Length") (decimal len)) }
+    ensures text { buffer.new
+        ≡ buffer.old ++ (if status
+        == 204 then [] else field (codes "Content-Length") (decimal len)) }
     ensures grown { length buffer.new ≤ length buffer.old + 60 }
 {
     if status != 204 {
@@ -131,7 +135,9 @@ fn push_length(buffer: &mut OutputBuffer, status: u16, len: u64)
 
 fn push_type(buffer: &mut OutputBuffer, content: &Content, len: usize)
     requires { length buffer.old + 60 ≤ output_room }
-    ensures text { buffer.new ≡ buffer.old ++ (if len == 0 then [] else field (codes "Content-Type") (media_type_of content.now)) }
+    ensures text { buffer.new
+        ≡ buffer.old ++ (if len
+        == 0 then [] else field (codes "Content-Type") (media_type_of content.now)) }
     ensures grown { length buffer.new ≤ length buffer.old + 60 }
 {
     if len != 0 {

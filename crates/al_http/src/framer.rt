@@ -81,9 +81,11 @@ impl Framer {
     /// The next request of the stream, which is the bytes held and then those that the source has left, in whatever pieces they come.
     pub fn next<S: Source>(&mut self, source: &mut S) -> Result<Option<HttpRequest<'_>>, Stop>
         ensures* moves { sem 𝓛 (Rests the_row self.entry (λ new.
-            Moves (stream_of self.old (S.left source.old)) (stream_of new (S.left source.new)) result)) }
+            Moves (stream_of self.old (S.left source.old)) (stream_of new (S.left source.new))
+                result)) }
         ensures later { S.faults source.old ≤ S.faults source.new }
-        ensures cause { result ≡ Err Stop.ReadFault → Rose (S.faults source.old) (S.faults source.new) }
+        ensures cause { result ≡ Err Stop.ReadFault
+            → Rose (S.faults source.old) (S.faults source.new) }
     {
         match self.buffer.take_request(source) {
             Ok(Some(extent)) => Ok(Some(self.buffer.request_at(extent))),

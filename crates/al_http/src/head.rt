@@ -38,7 +38,8 @@ pub(crate) fn value_at<'a>(
     n: usize,
 ) -> Option<&'a [u8]>
     requires { All (IsHeaderWithin (length block.now)) headers.now }
-    ensures { option_copied result ≡ slice_get (values_of name.now (map (header_bytes block.now) headers.now)) n }
+    ensures { option_copied result
+        ≡ slice_get (values_of name.now (map (header_bytes block.now) headers.now)) n }
 {
     let mut left = n;
     for header in headers {
@@ -90,9 +91,12 @@ fn first_value<'a, 'b>(
     name: &[u8],
 ) -> Option<(&'a [u8], &'b [HeaderSpan])>
     requires { All (IsHeaderWithin (length block.now)) headers.now }
-    ensures first { IfSome result (λ found. values_of name.now (map (header_bytes block.now) headers.now) ≡ found.0.now ∷ values_of name.now (map (header_bytes block.now) found.1.now)) }
+    ensures first { IfSome result (λ found.
+        values_of name.now (map (header_bytes block.now) headers.now)
+        ≡ found.0.now ∷ values_of name.now (map (header_bytes block.now) found.1.now)) }
     ensures within { IfSome result (λ found. All (IsHeaderWithin (length block.now)) found.1.now) }
-    ensures none { IfNone result (values_of name.now (map (header_bytes block.now) headers.now) ≡ []) }
+    ensures none { IfNone result (values_of name.now (map (header_bytes block.now) headers.now)
+        ≡ []) }
 {
     for (i, header) in headers.iter().enumerate() {
         if has_name(block, header, name) {
@@ -110,7 +114,8 @@ pub(crate) fn has_member_in(
     member: &[u8],
 ) -> bool
     requires { All (IsHeaderWithin (length block.now)) headers.now }
-    ensures { result ≡ list_any (names_member member.now) (values_of name.now (map (header_bytes block.now) headers.now)) }
+    ensures { result ≡ list_any (names_member member.now)
+        (values_of name.now (map (header_bytes block.now) headers.now)) }
 {
     for header in headers {
         if has_name(block, header, name) && has_member(header.value.of(block), member) {
@@ -123,7 +128,8 @@ pub(crate) fn has_member_in(
 /// The length of the body that the fields state.
 fn stated_length(block: &[u8], headers: &[HeaderSpan]) -> Option<usize>
     requires { All (IsHeaderWithin (length block.now)) headers.now }
-    ensures { result ≡ length_stated (values_of (codes "content-length") (map (header_bytes block.now) headers.now)) }
+    ensures { result ≡ length_stated
+        (values_of (codes "content-length") (map (header_bytes block.now) headers.now)) }
 {
     let Some((value, behind)) = first_value(block, headers, b"content-length") else {
         return Some(0);
@@ -181,9 +187,12 @@ fn parse_head(block: &[u8], spans: &mut [HeaderSpan]) -> Option<RequestSpans>
     requires is_block { IsBlock block.now }
     requires short { length block.now ≤ 16384 }
     requires places { length spans.old ≡ 64 }
-    ensures within { IfSome result (λ head. IsRequestWithin block.now spans.new head × (head.len ≡ length block.now)) }
-    ensures found { IfSome result (λ head. (tree : RequestHead) × IsHead block.now tree × IsRequestAt block.now spans.new head tree) }
-    ensures every { (tree : RequestHead) → IsHead block.now tree → IsSomeAnd result (λ head. IsRequestAt block.now spans.new head tree) }
+    ensures within { IfSome result (λ head. IsRequestWithin block.now spans.new head
+        × (head.len ≡ length block.now)) }
+    ensures found { IfSome result (λ head. (tree : RequestHead) × IsHead block.now tree
+        × IsRequestAt block.now spans.new head tree) }
+    ensures every { (tree : RequestHead) → IsHead block.now tree
+        → IsSomeAnd result (λ head. IsRequestAt block.now spans.new head tree) }
 {
     match parse_request(block, spans) {
         Ok(Status::Complete(head)) if head.len == block.len() => Some(head),

@@ -103,11 +103,15 @@ impl InputBuffer {
     /// Reads once; whether there was more.
     fn read_more<S: Source>(&mut self, source: &mut S) -> Result<bool, ReadFault>
         requires room { length (held_bytes self.old) < request_room }
-        ensures kept { take (length (held_bytes self.old)) (held_bytes self.new) ≡ held_bytes self.old }
+        ensures kept { take (length (held_bytes self.old)) (held_bytes self.new)
+            ≡ held_bytes self.old }
         ensures spans { self.new.spans ≡ self.old.spans }
-        ensures stream { Keeps (stream_of (held_bytes self.old) (S.left source.old)) (stream_of (held_bytes self.new) (S.left source.new)) }
-        ensures more { result ≡ Ok true → length (held_bytes self.old) < length (held_bytes self.new) }
-        ensures end { result ≡ Ok false → (held_bytes self.new ≡ held_bytes self.old) × IsAll (held_bytes self.old) (stream_of (held_bytes self.old) (S.left source.old)) }
+        ensures stream { Keeps (stream_of (held_bytes self.old) (S.left source.old))
+            (stream_of (held_bytes self.new) (S.left source.new)) }
+        ensures more { result ≡ Ok true
+            → length (held_bytes self.old) < length (held_bytes self.new) }
+        ensures end { result ≡ Ok false → (held_bytes self.new ≡ held_bytes self.old)
+            × IsAll (held_bytes self.old) (stream_of (held_bytes self.old) (S.left source.old)) }
         ensures later { S.faults source.old ≤ S.faults source.new }
         ensures cause { OnErr result (Rose (S.faults source.old) (S.faults source.new)) }
     {
@@ -124,11 +128,14 @@ impl InputBuffer {
     /// Reads until so many bytes are held; whether they are.
     fn read_up_to<S: Source>(&mut self, need: usize, source: &mut S) -> Result<bool, ReadFault>
         requires room { need ≤ request_room }
-        ensures kept { take (length (held_bytes self.old)) (held_bytes self.new) ≡ held_bytes self.old }
+        ensures kept { take (length (held_bytes self.old)) (held_bytes self.new)
+            ≡ held_bytes self.old }
         ensures spans { self.new.spans ≡ self.old.spans }
-        ensures stream { Keeps (stream_of (held_bytes self.old) (S.left source.old)) (stream_of (held_bytes self.new) (S.left source.new)) }
+        ensures stream { Keeps (stream_of (held_bytes self.old) (S.left source.old))
+            (stream_of (held_bytes self.new) (S.left source.new)) }
         ensures full { result ≡ Ok true → need ≤ length (held_bytes self.new) }
-        ensures end { result ≡ Ok false → (length (held_bytes self.new) < need) × IsAll (held_bytes self.new) (stream_of (held_bytes self.old) (S.left source.old)) }
+        ensures end { result ≡ Ok false → (length (held_bytes self.new) < need)
+            × IsAll (held_bytes self.new) (stream_of (held_bytes self.old) (S.left source.old)) }
         ensures later { S.faults source.old ≤ S.faults source.new }
         ensures cause { OnErr result (Rose (S.faults source.old) (S.faults source.new)) }
     {
@@ -151,10 +158,13 @@ impl InputBuffer {
 
     /// Reads until a block is held, and answers its length.
     fn find_block<S: Source>(&mut self, source: &mut S) -> Result<Option<usize>, Stop>
-        ensures stream { Keeps (stream_of (held_bytes self.old) (S.left source.old)) (stream_of (held_bytes self.new) (S.left source.new)) }
-        ensures finds { Finds (held_bytes self.new) (stream_of (held_bytes self.old) (S.left source.old)) result }
+        ensures stream { Keeps (stream_of (held_bytes self.old) (S.left source.old))
+            (stream_of (held_bytes self.new) (S.left source.new)) }
+        ensures finds { Finds (held_bytes self.new)
+            (stream_of (held_bytes self.old) (S.left source.old)) result }
         ensures later { S.faults source.old ≤ S.faults source.new }
-        ensures cause { result ≡ Err Stop.ReadFault → Rose (S.faults source.old) (S.faults source.new) }
+        ensures cause { result ≡ Err Stop.ReadFault
+            → Rose (S.faults source.old) (S.faults source.new) }
     {
         let mut seen = Seen::Nothing;
         let mut done = 0;
@@ -181,9 +191,11 @@ impl InputBuffer {
         requires within { len ≤ length (held_bytes self.old) }
         requires short { len ≤ head_limit }
         requires is_block { IsBlock (take len (held_bytes self.old)) }
-        ensures takes { Takes self.new (stream_of (held_bytes self.old) (S.left source.old)) (stream_of (held_bytes self.new) (S.left source.new)) result }
+        ensures takes { Takes self.new (stream_of (held_bytes self.old) (S.left source.old))
+            (stream_of (held_bytes self.new) (S.left source.new)) result }
         ensures later { S.faults source.old ≤ S.faults source.new }
-        ensures cause { result ≡ Err Stop.ReadFault → Rose (S.faults source.old) (S.faults source.new) }
+        ensures cause { result ≡ Err Stop.ReadFault
+            → Rose (S.faults source.old) (S.faults source.new) }
     {
         let (head, size) = match self.read_block(len) {
             Ok(found) => found,
@@ -202,8 +214,10 @@ impl InputBuffer {
         requires short { len ≤ head_limit }
         requires is_block { IsBlock (take len (held_bytes self.old)) }
         ensures held { held_bytes self.new ≡ held_bytes self.old }
-        ensures reads { IfOk result (λ found. ReadsHead (take len (held_bytes self.old)) self.new.spans.items found.0 found.1) }
-        ensures rejects { IfErr result (λ rejection. RejectsBlock rejection (take len (held_bytes self.old))) }
+        ensures reads { IfOk result (λ found.
+            ReadsHead (take len (held_bytes self.old)) self.new.spans.items found.0 found.1) }
+        ensures rejects { IfErr result (λ rejection.
+            RejectsBlock rejection (take len (held_bytes self.old))) }
     {
         let block = &self.bytes[self.start..self.start + len];
         read_head(block, &mut self.spans)
@@ -212,10 +226,14 @@ impl InputBuffer {
     /// Gives the request at the front, which stays where it is until the next read.
     fn give(&mut self, head: RequestSpans, size: usize) -> Extent
         requires fits { head.len + size ≤ length (held_bytes self.old) }
-        requires within { IsRequestWithin (take head.len (held_bytes self.old)) self.old.spans.items head }
+        requires within { IsRequestWithin (take head.len (held_bytes self.old)) self.old.spans.items
+            head }
         ensures held { held_bytes self.new ≡ drop (head.len + size) (held_bytes self.old) }
         ensures extent { IsExtentOn self.new result }
-        ensures message { message_on self.new result ≡ message_at (take head.len (held_bytes self.old)) (take head.headers self.old.spans.items) head (take size (drop head.len (held_bytes self.old))) }
+        ensures message { message_on self.new result
+            ≡ message_at (take head.len (held_bytes self.old))
+            (take head.headers self.old.spans.items) head
+            (take size (drop head.len (held_bytes self.old))) }
     {
         let body = self.start + head.len;
         let extent = Extent {
@@ -230,9 +248,11 @@ impl InputBuffer {
 
     /// Takes the next request off the stream.
     pub(crate) fn take_request<S: Source>(&mut self, source: &mut S) -> Result<Option<Extent>, Stop>
-        ensures serves { Serves self.new (stream_of (held_bytes self.old) (S.left source.old)) (stream_of (held_bytes self.new) (S.left source.new)) result }
+        ensures serves { Serves self.new (stream_of (held_bytes self.old) (S.left source.old))
+            (stream_of (held_bytes self.new) (S.left source.new)) result }
         ensures later { S.faults source.old ≤ S.faults source.new }
-        ensures cause { result ≡ Err Stop.ReadFault → Rose (S.faults source.old) (S.faults source.new) }
+        ensures cause { result ≡ Err Stop.ReadFault
+            → Rose (S.faults source.old) (S.faults source.new) }
     {
         match self.find_block(source) {
             Ok(Some(len)) => match self.take_block(len, source) {
@@ -287,7 +307,9 @@ fn read_behind<S: Source>(
     requires { filled < length bytes.old }
     ensures within { IfOk result (λ count. filled + count ≤ length bytes.new) }
     ensures kept { take filled bytes.new ≡ take filled bytes.old }
-    ensures gave { IfOk result (λ count. Consumes (S.left source.old) (S.left source.new) (slice_range bytes.new filled (filled + count))) }
+    ensures gave { IfOk result (λ count.
+        Consumes (S.left source.old) (S.left source.new)
+        (slice_range bytes.new filled (filled + count))) }
     ensures end { IfOk result (λ count. TellsEnd (S.left source.old) count) }
     ensures fault { OnErr result (Keeps (S.left source.old) (S.left source.new)) }
     ensures later { S.faults source.old ≤ S.faults source.new }

@@ -83,7 +83,8 @@ impl<'a> HttpRequest<'a> {
 
     /// The value of field number `n`, counted from 0, of those with that name, in any ASCII case.
     pub fn field(&self, name: &[u8], n: usize) -> Option<&[u8]>
-        ensures { option_copied result ≡ slice_get (values_of name.now (message_of self.now).fields) n }
+        ensures { option_copied result
+            ≡ slice_get (values_of name.now (message_of self.now).fields) n }
     {
         value_at(self.block, self.headers, name, n)
     }

@@ -35,7 +35,9 @@ impl Seen {
     /// What was seen with one more LF, or nothing where the block ends with it.
     #[tactic(auto, using(crate::proofs::ScanLemmas::on_line_feed))]
     fn after_line_feed(self) -> Option<Seen>
-        ensures { (front : List ℕ) → IsAfter self front → MatchOption result (IsBlock (front ++ line_feed ∷ [])) (λ seen. IsAfter seen (front ++ line_feed ∷ [])) }
+        ensures { (front : List ℕ) → IsAfter self front
+            → MatchOption result (IsBlock (front ++ line_feed ∷ [])) (λ seen.
+            IsAfter seen (front ++ line_feed ∷ [])) }
     {
         match self {
             Seen::Nothing => Some(Seen::Nothing),
@@ -47,7 +49,8 @@ impl Seen {
     /// What was seen with one more CR.
     #[tactic(auto, using(crate::proofs::ScanLemmas::on_return))]
     fn after_return(self) -> Seen
-        ensures { (front : List ℕ) → IsAfter self front → IsAfter result (front ++ carriage_return ∷ []) }
+        ensures { (front : List ℕ) → IsAfter self front
+            → IsAfter result (front ++ carriage_return ∷ []) }
     {
         match self {
             Seen::Nothing => Seen::Nothing,

@@ -34,7 +34,8 @@ pub fn write_all<O: Sink>(sink: &mut O, bytes: &[u8]) -> Result<(), WriteFault>
 
 /// Sends what was gathered where it is much.
 fn make_room<O: Sink>(sink: &mut O, buffer: &mut OutputBuffer) -> Result<(), WriteFault>
-    ensures ok { OnOk result (Gathers (O.held sink.old) (O.held sink.new) buffer.old buffer.new []) }
+    ensures ok { OnOk result (Gathers (O.held sink.old) (O.held sink.new) buffer.old buffer.new
+        []) }
     ensures room { OnOk result (length buffer.new ≤ gather_limit) }
     ensures fault { OnErr result (AppendsFront (O.held sink.old) (O.held sink.new) buffer.old) }
     ensures later { O.faults sink.old ≤ O.faults sink.new }
@@ -55,9 +56,11 @@ fn send_escaped<O: Sink>(
     name: &[u8],
 ) -> Result<(), WriteFault>
     requires { length buffer.old ≤ gather_limit + 3 }
-    ensures ok { OnOk result (Gathers (O.held sink.old) (O.held sink.new) buffer.old buffer.new (escaped name.now)) }
+    ensures ok { OnOk result (Gathers (O.held sink.old) (O.held sink.new) buffer.old buffer.new
+        (escaped name.now)) }
     ensures room { OnOk result (length buffer.new ≤ gather_limit + 3) }
-    ensures fault { OnErr result (AppendsFront (O.held sink.old) (O.held sink.new) (buffer.old ++ escaped name.now)) }
+    ensures fault { OnErr result
+        (AppendsFront (O.held sink.old) (O.held sink.new) (buffer.old ++ escaped name.now)) }
     ensures later { O.faults sink.old ≤ O.faults sink.new }
     ensures cause { OnErr result (Rose (O.faults sink.old) (O.faults sink.new)) }
 {
@@ -76,9 +79,12 @@ fn send_location<O: Sink>(
     location: &Option<Text>,
 ) -> Result<(), WriteFault>
     requires { length buffer.old ≤ most_field_bytes }
-    ensures ok { OnOk result (Gathers (O.held sink.old) (O.held sink.new) buffer.old buffer.new (location_field location.now)) }
+    ensures ok { OnOk result (Gathers (O.held sink.old) (O.held sink.new) buffer.old buffer.new
+        (location_field location.now)) }
     ensures room { OnOk result (length buffer.new ≤ gather_limit + 5) }
-    ensures fault { OnErr result (AppendsFront (O.held sink.old) (O.held sink.new) (buffer.old ++ location_field location.now)) }
+    ensures fault { OnErr result
+        (AppendsFront (O.held sink.old) (O.held sink.new) (buffer.old
+        ++ location_field location.now)) }
     ensures later { O.faults sink.old ≤ O.faults sink.new }
     ensures cause { OnErr result (Rose (O.faults sink.old) (O.faults sink.new)) }
 {
@@ -98,8 +104,10 @@ fn send_with<O: Sink>(
     buffer: &mut OutputBuffer,
     text: &[u8],
 ) -> Result<(), WriteFault>
-    ensures ok { OnOk result (Appends (O.held sink.old) (O.held sink.new) (buffer.old ++ text.now)) }
-    ensures fault { OnErr result (AppendsFront (O.held sink.old) (O.held sink.new) (buffer.old ++ text.now)) }
+    ensures ok { OnOk result (Appends (O.held sink.old) (O.held sink.new) (buffer.old
+        ++ text.now)) }
+    ensures fault { OnErr result
+        (AppendsFront (O.held sink.old) (O.held sink.new) (buffer.old ++ text.now)) }
     ensures later { O.faults sink.old ≤ O.faults sink.new }
     ensures cause { OnErr result (Rose (O.faults sink.old) (O.faults sink.new)) }
 {
@@ -120,8 +128,11 @@ fn send_body<O: Sink>(
 ) -> Result<(), WriteFault>
     requires room { length buffer.old ≤ gather_limit + 5 }
     requires body { HasRow response.now.content }
-    ensures ok { OnOk result (Appends (O.held sink.old) (O.held sink.new) (buffer.old ++ crlf ++ (if response.now.bare then [] else body_of response.now.content))) }
-    ensures fault { OnErr result (AppendsFront (O.held sink.old) (O.held sink.new) (buffer.old ++ crlf ++ (if response.now.bare then [] else body_of response.now.content))) }
+    ensures ok { OnOk result (Appends (O.held sink.old) (O.held sink.new) (buffer.old ++ crlf
+        ++ (if response.now.bare then [] else body_of response.now.content))) }
+    ensures fault { OnErr result
+        (AppendsFront (O.held sink.old) (O.held sink.new) (buffer.old ++ crlf
+        ++ (if response.now.bare then [] else body_of response.now.content))) }
     ensures later { O.faults sink.old ≤ O.faults sink.new }
     ensures cause { OnErr result (Rose (O.faults sink.old) (O.faults sink.new)) }
 {
@@ -144,8 +155,10 @@ fn send_body<O: Sink>(
 #[tactic(auto, unfolding(crate::specs::Responses::response_text))]
 pub fn respond<O: Sink>(sink: &mut O, response: &Response, last: bool) -> Result<(), WriteFault>
     requires { HasText response.now }
-    ensures ok { OnOk result (Appends (O.held sink.old) (O.held sink.new) (response_text response.now last)) }
-    ensures fault { OnErr result (AppendsFront (O.held sink.old) (O.held sink.new) (response_text response.now last)) }
+    ensures ok { OnOk result (Appends (O.held sink.old) (O.held sink.new)
+        (response_text response.now last)) }
+    ensures fault { OnErr result
+        (AppendsFront (O.held sink.old) (O.held sink.new) (response_text response.now last)) }
     ensures later { O.faults sink.old ≤ O.faults sink.new }
     ensures cause { OnErr result (Rose (O.faults sink.old) (O.faults sink.new)) }
 {

@@ -23,9 +23,12 @@ pub trait Service<T: Kept>: Drop {
         now: Stamp,
     ) -> Result<Response, AllocError>
         ensures same { self.new ≡ self.old }
-        ensures answered { IfOk result (λ response. answers self.old (T.mark kept.old) origin (message_of request.now) now response (T.mark kept.new)) }
+        ensures answered { IfOk result (λ response.
+            answers self.old (T.mark kept.old) origin (message_of request.now) now response
+            (T.mark kept.new)) }
         ensures adds { Adds origin (T.mark kept.old) (T.mark kept.new) }
-        ensures place { IfOk result (λ response. response.place ≡ Some (length (T.mark kept.old).entries)) }
+        ensures place { IfOk result (λ response.
+            response.place ≡ Some (length (T.mark kept.old).entries)) }
         ensures text { IfOk result HasText }
         ensures unanswered { OnErr result ((T.mark kept.new).entries ≡ (T.mark kept.old).entries) };
 }

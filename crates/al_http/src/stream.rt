@@ -49,7 +49,9 @@ pub fn calls_are_a_run()
 
 /// Takes all requests of a stream: how many there are, and how it ends. So bytes that are told and read without a fault are such a list.
 pub fn take_all<S: Source>(framer: &mut Framer, source: &mut S) -> Result<(u64, End), ReadFault>
-    ensures whole { IfOk result (λ taken. (requests : List RequestMessage) × (length requests ≡ taken.0) × IsWhole (stream_of framer.old (S.left source.old)) requests (ending_of taken.1)) }
+    ensures whole { IfOk result (λ taken. (requests : List RequestMessage)
+        × (length requests ≡ taken.0)
+        × IsWhole (stream_of framer.old (S.left source.old)) requests (ending_of taken.1)) }
     ensures cause { OnErr result (Rose (S.faults source.old) (S.faults source.new)) }
 {
     let mut count = 0;

@@ -2,6 +2,7 @@ pub mod Fronts
 pub mod Keyed
 pub mod MatchFaults
 pub mod MatchKinds
+pub mod MatchTests
 pub mod OidFronts
 pub mod OidsRead
 pub mod MatchingLaws
@@ -11,4 +12,5 @@ pub mod PathsRead
 pub mod SpellingLemmas
 pub mod StepMatches
 pub mod TextStopLemmas
+pub mod TextTests
 pub mod XPathStops

@@ -1,4 +1,6 @@
+pub mod Forms
 pub mod Keys
+pub mod Limits
 pub mod MatchForms
 pub mod Matches
 pub mod Matching

@@ -36,7 +36,8 @@ impl AlarmKey {
 
     /// The order of keys of one resource.
     fn order_by_type(&self, other: &AlarmKey) -> Ordering
-        ensures { result ≡ ordering_then (slice_cmp nat_cmp self.now.type_id other.now.type_id) (slice_cmp nat_cmp self.now.qualifier other.now.qualifier) }
+        ensures { result ≡ ordering_then (slice_cmp nat_cmp self.now.type_id other.now.type_id)
+            (slice_cmp nat_cmp self.now.qualifier other.now.qualifier) }
     {
         match self.type_id.cmp(&other.type_id) {
             Ordering::Less => Ordering::Less,
@@ -70,7 +71,8 @@ impl Eq for AlarmKey {
 impl PartialOrd for AlarmKey {
     ghost partial_cmp = { as_partial_cmp key_cmp };
 
-    ghost laws = { partial_order_from_own_ties (Prim.search (comparing, rules)) (Prim.search (comparing, rules)) };
+    ghost laws = { partial_order_from_own_ties (Prim.search (comparing, rules))
+        (Prim.search (comparing, rules)) };
 
     fn partial_cmp(&self, other: &AlarmKey) -> Option<Ordering> {
         Some(self.cmp(other))

@@ -1,6 +1,7 @@
 //! What names an alarm: its resource, its type and a qualifier; and what resources are matched by.
 #![tactic(auto)]
 
+pub mod form;
 pub mod key;
 pub mod laws;
 mod oid;
@@ -11,6 +12,7 @@ mod steps;
 mod utf8;
 mod xpath;
 
+pub use form::{read_match, read_pattern, read_resource};
 pub use key::AlarmKey;
-pub use resource::{Kind, MAX_RESOURCE, Resource, ResourceFault};
+pub use resource::{Kind, Resource, ResourceFault};
 pub use resource_match::{MatchFault, ResourceMatch};

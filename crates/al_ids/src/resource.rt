@@ -12,15 +12,13 @@ ghost use Rattle.std.specs.Prelude.{◌≡◌, ◌≢◌, ◌↔◌, ◌<◌, �
 ghost use lib.Pointwise.{pointwise};
 
 use crate::{oid, path};
+use al_base::limits::LONGEST_RESOURCE;
 use al_base::{Copied, Text, TextFault};
 use std::alloc::{AllocError, Global};
 use std::cmp::Ordering;
 use std::error::Error;
 use std::fmt;
 use std::marker::Model;
-
-/// The most bytes that a resource has.
-pub const MAX_RESOURCE: usize = 512;
 
 /// What a resource names its thing by.
 #[derive(Clone, Copy, Debug, PartialEq, Eq)]
@@ -74,7 +72,8 @@ impl Model for Resource {
 
     ghost view = { λ resource. resource.text };
 
-    ghost invariant = { λ resource. IsResource resource.text × IsOfKind resource.kind resource.text };
+    ghost invariant = { λ resource. IsResource resource.text
+        × IsOfKind resource.kind resource.text };
 }
 
 impl Resource {
@@ -82,14 +81,15 @@ impl Resource {
     pub fn read(alloc: Global, text: &[u8]) -> Result<Resource, ResourceFault>
         ensures ok { IfOk result (λ resource. (resource ≡ text.now) × IsResource text.now) }
         ensures empty { (result ≡ Err ResourceFault.Empty) ↔ (text.now ≡ []) }
-        ensures too_long { (result ≡ Err ResourceFault.TooLong) ↔ (longest_resource < length text.now) }
+        ensures too_long { (result ≡ Err ResourceFault.TooLong)
+            ↔ (longest_resource < length text.now) }
         ensures not_utf8 { (result ≡ Err ResourceFault.NotUtf8)
             ↔ ((text.now ≢ []) × (length text.now ≤ longest_resource) × ¬ (IsUtf8 text.now)) }
     {
         if text.is_empty() {
             return Err(ResourceFault::Empty);
         }
-        if text.len() > MAX_RESOURCE {
+        if text.len() > LONGEST_RESOURCE {
             return Err(ResourceFault::TooLong);
         }
         match Text::read(alloc, text) {
@@ -152,7 +152,8 @@ impl Eq for Resource {
 impl PartialOrd for Resource {
     ghost partial_cmp = { as_partial_cmp (slice_cmp nat_cmp) };
 
-    ghost laws = { partial_order_from_own_ties (Prim.search (comparing, rules)) (Prim.search (comparing, rules)) };
+    ghost laws = { partial_order_from_own_ties (Prim.search (comparing, rules))
+        (Prim.search (comparing, rules)) };
 
     fn partial_cmp(&self, other: &Resource) -> Option<Ordering> {
         Some(self.cmp(other))

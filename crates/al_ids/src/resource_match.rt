@@ -13,9 +13,10 @@ ghost use Rattle.std.specs.Cmp.Rules.{comparing};
 ghost use Rattle.std.specs.Prelude.{◌≡◌, ◌≢◌, ◌⊎◌, ◌↔◌, ◌<◌, ◌≤◌, ℕ, Some, [], IfOk, IsOkUnless, IsTrue, MatchResult, length};
 ghost use lib.Pointwise.{pointwise};
 
-use crate::resource::{Kind, MAX_RESOURCE, Resource};
+use crate::resource::{Kind, Resource};
 use crate::xpath::xpath_stop;
 use crate::{oid, steps};
+use al_base::limits::LONGEST_RESOURCE;
 use al_base::{Copied, Text, TextFault};
 use al_pattern::{Pattern, PatternFault};
 use std::alloc::{AllocError, Global};
@@ -96,19 +97,21 @@ impl ResourceMatch {
         // What is a match is read, unless memory runs out.
         ensures only { IsMatch text.now → IsOkUnless result MatchFault.Memory }
         ensures empty { (result ≡ Err MatchFault.Empty) ↔ (text.now ≡ []) }
-        ensures too_long { (result ≡ Err MatchFault.TooLong) ↔ (longest_resource < length text.now) }
+        ensures too_long { (result ≡ Err MatchFault.TooLong)
+            ↔ (longest_resource < length text.now) }
         ensures xpath { (place : ℕ) → (result ≡ Err (MatchFault.XPathUnsupported place))
             ↔ (IsSized text.now × IsTrue (is_rooted_of text.now) × IsXPathStop text.now place) }
         // The fault of a pattern is its first, and where there is one, it is the answer unless memory runs out.
         ensures pattern { (fault : PatternFault) → result ≡ Err (MatchFault.Pattern fault)
             → IsSized text.now × IsOther text.now × (first_fault text.now ≡ Some fault) }
-        ensures no_pattern { (fault : PatternFault) → IsSized text.now → IsOther text.now → first_fault text.now ≡ Some fault
+        ensures no_pattern { (fault : PatternFault) → IsSized text.now → IsOther text.now
+            → first_fault text.now ≡ Some fault
             → (result ≡ Err (MatchFault.Pattern fault)) ⊎ (result ≡ Err MatchFault.Memory) }
     {
         if text.is_empty() {
             return Err(MatchFault::Empty);
         }
-        if text.len() > MAX_RESOURCE {
+        if text.len() > LONGEST_RESOURCE {
             return Err(MatchFault::TooLong);
         }
         match form_of(alloc, text) {
@@ -193,7 +196,8 @@ fn is_of(resource: &Resource, kind: Kind) -> bool
 
 /// The form of a text of 1 to 512 bytes.
 fn form_of(alloc: Global, text: &[u8]) -> Result<Form, MatchFault>
-    ensures { MatchResult result (λ form. (text_of form ≡ text.now) × IsOfForm form) (IsFormFault text.now) }
+    ensures { MatchResult result (λ form. (text_of form ≡ text.now)
+        × IsOfForm form) (IsFormFault text.now) }
 {
     if is_rooted(text) {
         path_form(alloc, text)
@@ -213,7 +217,8 @@ fn is_rooted(text: &[u8]) -> bool
 
 fn path_form(alloc: Global, text: &[u8]) -> Result<Form, MatchFault>
     requires { IsTrue (is_rooted_of text.now) }
-    ensures { MatchResult result (λ form. (text_of form ≡ text.now) × IsOfForm form) (IsFormFault text.now) }
+    ensures { MatchResult result (λ form. (text_of form ≡ text.now)
+        × IsOfForm form) (IsFormFault text.now) }
 {
     match xpath_stop(text) {
         Some(place) => Err(MatchFault::XPathUnsupported(place)),
@@ -227,7 +232,8 @@ fn path_form(alloc: Global, text: &[u8]) -> Result<Form, MatchFault>
 
 fn oid_form(alloc: Global, text: &[u8]) -> Result<Form, MatchFault>
     requires { IsOid text.now }
-    ensures { MatchResult result (λ form. (text_of form ≡ text.now) × IsOfForm form) (IsFormFault text.now) }
+    ensures { MatchResult result (λ form. (text_of form ≡ text.now)
+        × IsOfForm form) (IsFormFault text.now) }
 {
     match Text::read(alloc, text) {
         Ok(text) => Ok(Form::Oid(text)),
@@ -238,7 +244,8 @@ fn oid_form(alloc: Global, text: &[u8]) -> Result<Form, MatchFault>
 
 fn pattern_form(alloc: Global, text: &[u8]) -> Result<Form, MatchFault>
     requires { IsOther text.now }
-    ensures { MatchResult result (λ form. (text_of form ≡ text.now) × IsOfForm form) (IsFormFault text.now) }
+    ensures { MatchResult result (λ form. (text_of form ≡ text.now)
+        × IsOfForm form) (IsFormFault text.now) }
 {
     match Pattern::read(alloc, text) {
         Ok(pattern) => Ok(Form::Pattern(pattern)),

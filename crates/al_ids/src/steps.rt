@@ -51,7 +51,8 @@ fn takes_steps(
     ensures { (asked_steps given_steps : List Step)
         → AllByRecursion IsStep asked_steps → asked.now ≡ path_text asked_steps
         → AllByRecursion IsStep given_steps → given.now ≡ path_text given_steps
-        → (IsTrue result ↔ AllZip TakesStep (with_modules (option_copied asked_owner.entry) asked_steps)
+        → (IsTrue result ↔ AllZip TakesStep
+            (with_modules (option_copied asked_owner.entry) asked_steps)
         (with_modules (option_copied given_owner.entry) given_steps)) }
 {
     let Some(asked) = cut_step(asked) else {
@@ -78,11 +79,15 @@ fn takes_step(
     given: &Named,
     given_owner: Option<&[u8]>,
 ) -> bool
-    ensures { (asked_predicates given_predicates : List Predicate) (asked_steps given_steps : List Step)
-        → IsTail asked.now.rest.now asked_predicates asked_steps → IsTail given.now.rest.now given_predicates given_steps
+    ensures { (asked_predicates given_predicates : List Predicate)
+        (asked_steps given_steps : List Step)
+        → IsTail asked.now.rest.now asked_predicates asked_steps
+            → IsTail given.now.rest.now given_predicates given_steps
         → (IsTrue result ↔ TakesStep
-        (record { defined_in = option_copied asked_owner.entry; name = asked.now.name.now; predicates = asked_predicates })
-        (record { defined_in = option_copied given_owner.entry; name = given.now.name.now; predicates = given_predicates })) }
+        (record { defined_in = option_copied asked_owner.entry; name = asked.now.name.now;
+            predicates = asked_predicates })
+        (record { defined_in = option_copied given_owner.entry; name = given.now.name.now;
+            predicates = given_predicates })) }
 {
     asked.name == given.name
         && takes_owner(asked_owner, given_owner)
@@ -91,7 +96,8 @@ fn takes_step(
 
 /// Whether the module is the one that is asked for, where one is.
 fn takes_owner(asked: Option<&[u8]>, given: Option<&[u8]>) -> bool
-    ensures { IsTrue result ↔ IfSome asked.entry (λ owner. option_copied given.entry ≡ Some owner.now) }
+    ensures { IsTrue result ↔ IfSome asked.entry (λ owner.
+        option_copied given.entry ≡ Some owner.now) }
 {
     match (asked, given) {
         (None, _) => true,
@@ -102,8 +108,10 @@ fn takes_owner(asked: Option<&[u8]>, given: Option<&[u8]>) -> bool
 
 /// Whether each predicate at the front of the one text is among those of the other.
 fn has_all(asked: &[u8], given: &[u8]) -> bool
-    ensures { (asked_predicates given_predicates : List Predicate) (asked_steps given_steps : List Step)
-        → IsTail asked.now asked_predicates asked_steps → IsTail given.now given_predicates given_steps
+    ensures { (asked_predicates given_predicates : List Predicate)
+        (asked_steps given_steps : List Step)
+        → IsTail asked.now asked_predicates asked_steps
+            → IsTail given.now given_predicates given_steps
         → (IsTrue result ↔ AllByRecursion (HasPredicate given_predicates) asked_predicates) }
 {
     match cut_predicate(asked) {
@@ -129,7 +137,8 @@ fn has_predicate(text: &[u8], name: &[u8], value: &[u8]) -> bool
 }
 
 fn is_asked(condition: &Condition, name: &[u8], value: &[u8]) -> bool
-    ensures { IsTrue result ↔ ((condition.now.name.now ≡ name.now) × (condition.now.value.now ≡ value.now)) }
+    ensures { IsTrue result ↔ ((condition.now.name.now ≡ name.now)
+        × (condition.now.value.now ≡ value.now)) }
 {
     condition.name == name && condition.value == value
 }
@@ -148,9 +157,12 @@ fn behind_predicates(text: &[u8]) -> &[u8]
 
 /// The names of the step at the front of the text.
 fn cut_step(text: &[u8]) -> Option<Named<'_>>
-    ensures owner { option_map (λ named. option_copied named.owner) result ≡ option_map owner_of (behind_byte 47 text.now) }
-    ensures name { option_map (λ named. named.name.now) result ≡ option_map name_of (behind_byte 47 text.now) }
-    ensures rest { option_map (λ named. named.rest.now) result ≡ option_map behind_names (behind_byte 47 text.now) }
+    ensures owner { option_map (λ named. option_copied named.owner) result
+        ≡ option_map owner_of (behind_byte 47 text.now) }
+    ensures name { option_map (λ named. named.name.now) result
+        ≡ option_map name_of (behind_byte 47 text.now) }
+    ensures rest { option_map (λ named. named.rest.now) result
+        ≡ option_map behind_names (behind_byte 47 text.now) }
     ensures shorter { IfSome result (λ named. length named.rest.now < length text.now) }
 {
     match behind(text, b'/') {
@@ -161,7 +173,8 @@ fn cut_step(text: &[u8]) -> Option<Named<'_>>
 
 /// The predicate at the front of the text.
 fn cut_predicate(text: &[u8]) -> Option<Condition<'_>>
-    ensures parts { option_map (λ (condition : Condition). record { name = condition.name.now; value = condition.value.now; rest = condition.rest.now }) result
+    ensures parts { option_map (λ (condition : Condition). record { name = condition.name.now;
+        value = condition.value.now; rest = condition.rest.now }) result
         ≡ parts_of text.now }
     ensures shorter { IfSome result (λ condition. length condition.rest.now < length text.now) }
 {

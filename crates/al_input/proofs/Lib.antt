@@ -1,11 +1,8 @@
 pub mod Due
-pub mod InventoryTests
 pub mod Listed
-pub mod MatchTests
 pub mod Named
 pub mod PlainLemmas
 pub mod PlainNumbers
 pub mod Readings
-pub mod TextTests
 pub mod Within
 pub mod WordLemmas

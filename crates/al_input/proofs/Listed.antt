@@ -1,7 +1,7 @@
 -- The items of an array are the list that the kit sees.
 use Rattle.std.proofs.Common.{◌≡◌, ℕ, suc, ◌<◌, ◌≤◌, true, false, None, Some, Result, Err, List, [], ◌∷◌, length, map, refl, sym, ap, arith, nat_le}
 use Rattle.std.proofs.lemmas.Bool.Decides.{nat_tests}
-use Rattle.al_uri.specs.Answers.{each}
+use Rattle.al_base.specs.Answers.{each}
 use Rattle.serde_json.specs.Data.{Data}
 use Rattle.serde_json.specs.Find.{as_array}
 use Rattle.serde_json.specs.View.{items_of, items_view, view}

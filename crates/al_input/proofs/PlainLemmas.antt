@@ -11,18 +11,17 @@ use Rattle.json.specs.Lex.{tokens}
 use Rattle.json.specs.Token.{Token}
 use Rattle.json.proofs.Grammar.{members_end, members_more, read_key-shorter, value-begin_object, value_is}
 use Rattle.al_base.specs.Limits.{is_text}
-use Rattle.al_base.specs.Names.{status_name}
+use Rattle.al_base.specs.Names.{status_name, statuses}
 use Rattle.al_model.specs.declared.request.Request.{Request}
 use Rattle.al_input.specs.Faults.{Answers}
 use Rattle.al_input.specs.Inputs.{body, report, report_members, report_names, report_qualifier, report_resource, report_status, report_text, report_type}
 use Rattle.al_input.specs.Members.{is_among, known_only, names_in, one_of, optional, read_some, required, value_at}
 use Rattle.al_input.specs.Plain.{NamesInput, given, input_tree, members_at, needed, or_empty, texts, tree_of, whole_value}
 use Rattle.al_input.specs.Readers.{passed, text, type_name, word, word_of}
-use Rattle.al_input.specs.Words.{statuses}
 use Rattle.al_input.specs.declared.fault.InputFault.{InputFault}
 use Rattle.al_input.specs.declared.fault.InputFault.TheVariants.{BadValue, Missing}
 use Rattle.al_base.specs.Identifiers.{is_type_name}
-use Rattle.al_uri.specs.Answers.{and_then, or_fault}
+use Rattle.al_base.specs.Answers.{and_then, or_fault}
 use Rattle.al_uri.specs.TypeNames.{with_module}
 use Rattle.serde_json.specs.Data.{Data, object, string, Members, no_members, member, put}
 use Rattle.serde_json.specs.Find.{get_member}

@@ -11,14 +11,15 @@ use Rattle.al_base.specs.Identifiers.{IsTypeName, is_type_name}
 use Rattle.al_base.specs.Limits.{IsText, is_text}
 use Rattle.al_ids.specs.Matches.{IsMatch}
 use Rattle.al_model.specs.Limits.{IsPatternWithin}
-use Rattle.al_uri.specs.Answers.{and_then, each, or_fault}
+use Rattle.al_base.specs.Answers.{and_then, each, or_fault}
 use Rattle.al_uri.specs.TypeNames.{with_module}
 use Rattle.serde_json.specs.Data.{Data, Items}
 use Rattle.serde_json.specs.Find.{as_array}
 use Rattle.al_input.proofs.MatchTests.{decides_match, decides_spelled_pattern}
-use Rattle.al_input.specs.Forms.{is_match, is_pattern_text}
+use Rattle.al_ids.specs.Forms.{is_match, is_pattern_text}
 use Rattle.al_input.specs.Members.{one_of, optional, read_some, required, value_at, with_default}
-use Rattle.al_input.specs.Readers.{list, listed, number, passed, pattern, repeats, resource_match, set, string_of, text, type_name}
+use Rattle.al_input.specs.Readers.{list, listed, number, passed, pattern, resource_match, set, string_of, text, type_name}
+use Rattle.al_base.specs.Repeats.{repeats}
 use Rattle.al_input.specs.declared.fault.InputFault.{InputFault}
 use Rattle.al_input.specs.declared.fault.InputFault.TheVariants.{BadValue, Missing}
 

@@ -6,7 +6,7 @@ use Rattle.std.specs.List.{Contains, count_by}
 use Rattle.std.specs.Option.{option_map}
 use Rattle.al_base.specs.Identifiers.{IsTypeName}
 use Rattle.al_base.specs.Limits.{IsAge, IsDescription, IsFilterName, IsOperatorText, IsQualifier, IsResourceText, IsSeveritySet, IsShelfName, IsStatusChanges, IsText, age_units}
-use Rattle.al_base.specs.Names.{event_type_name, rank_of, severity_name, state_name, status_name}
+use Rattle.al_base.specs.Names.{event_type_name, event_types, rank_of, severities, severity_name, state_name, states, status_name, statuses}
 use Rattle.al_base.specs.declared.event_type.EventType.TheVariants.{Other}
 use Rattle.al_base.specs.declared.operator.OperatorState.{OperatorState}
 use Rattle.al_base.specs.declared.operator.OperatorState.TheVariants.{None0, Ack, Closed, Shelved, UnShelved}
@@ -14,7 +14,9 @@ use Rattle.al_base.specs.declared.severity.Severity.{Severity}
 use Rattle.al_base.specs.declared.severity.Severity.TheVariants.{Indeterminate, Warning, Minor, Major, Critical}
 use Rattle.al_ids.specs.Matches.{IsMatch}
 use Rattle.al_ids.specs.declared.key.AlarmKey.{AlarmKey}
-use Rattle.al_model.specs.Limits.{IsOperators, IsPatternWithin, IsTypeMatchWithin, IsShelfWithin, IsSpotWithin, IsPurgeWithin, IsCompressWithin, IsIdentityWithin, IsRowWithin, IsInventoryWithin, IsRequestWithin}
+use Rattle.al_model.specs.Limits.{IsPatternWithin, IsTypeMatchWithin, IsShelfWithin, IsPurgeWithin, IsCompressWithin, IsIdentityWithin, IsRowWithin, IsInventoryWithin, IsRequestWithin}
+use Rattle.al_shelf.specs.Limits.{IsSpotWithin}
+use Rattle.al_base.specs.Operators.{IsOperators}
 use Rattle.al_model.specs.declared.event.Side.{Side}
 use Rattle.al_model.specs.declared.event.Side.TheVariants as sides
 use Rattle.al_model.specs.declared.request.Request.{Request}
@@ -40,7 +42,8 @@ use Rattle.al_input.specs.Inputs.{action, action_input, action_members, age, age
 use Rattle.al_input.specs.Limits.{IsAskedWithin}
 use Rattle.al_input.specs.Members.{known_only, one_of, optional, required, with_default}
 use Rattle.al_input.specs.Readers.{flag, list, number, only, passed, pattern, resource_match, set, text, type_name, word}
-use Rattle.al_input.specs.Words.{clearance_name, clearances, event_types, mode_name, modes, severities, states, statuses}
+use Rattle.al_select.specs.Clearances.{clearance_name, clearances}
+use Rattle.al_notify.specs.Modes.{mode_name, modes}
 use Rattle.al_input.specs.declared.asked.Asked.{Asked}
 use Rattle.al_input.specs.declared.asked.Asked.TheVariants.{Operate}
 use Rattle.al_input.specs.declared.fault.InputFault.{InputFault}

@@ -4,7 +4,7 @@ use Rattle.std.specs.Prelude.{◌==◌}
 use Rattle.std.proofs.lemmas.Bool.{false≢true}
 use Rattle.std.specs.Bool.{Decides}
 use Rattle.std.specs.Cmp.Lexicographic.{pointwise, bytes_decides}
-use Rattle.al_base.specs.Names.{severity_name, status_name, state_name, event_type_name}
+use Rattle.al_base.specs.Names.{event_type_name, event_types, severities, severity_name, state_name, states, status_name, statuses}
 use Rattle.al_base.specs.declared.event_type.EventType.{EventType}
 use Rattle.al_base.specs.declared.event_type.EventType.TheVariants.{Other, CommunicationsAlarm, QualityOfServiceAlarm, ProcessingErrorAlarm, EquipmentAlarm, EnvironmentalAlarm, IntegrityViolation, OperationalViolation, PhysicalViolation, SecurityServiceOrMechanismViolation, TimeDomainViolation}
 use Rattle.al_base.specs.declared.operator.OperatorState.{OperatorState}
@@ -14,7 +14,6 @@ use Rattle.al_base.specs.declared.severity.Severity.TheVariants.{Indeterminate, 
 use Rattle.al_base.specs.declared.severity.Status.{Status}
 use Rattle.al_base.specs.declared.severity.Status.TheVariants.{Cleared, Active}
 use Rattle.al_input.specs.Readers.{word_of}
-use Rattle.al_input.specs.Words.{severities, statuses, states, event_types}
 
 -- A reading knows just these words.
 abbrev pub Reads : {W : Type 0} → (W → List ℕ) → List ℕ → Option W → Type 0

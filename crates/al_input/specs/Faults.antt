@@ -1,6 +1,8 @@
 -- Which fault a call may answer.
 use Rattle.std.specs.Prelude.{◌≡◌, ⊤, Result, Ok, Err}
-use Rattle.al_uri.specs.Answers.{AnswersBy}
+use Rattle.al_base.specs.Answers.{AnswersBy}
+use Rattle.al_base.specs.declared.form.FormFault.{FormFault}
+use Rattle.al_base.specs.declared.form.FormFault.TheVariants as forms
 use Rattle.al_input.specs.declared.fault.InputFault.{InputFault}
 use Rattle.al_input.specs.declared.fault.InputFault.TheVariants.{Unknown, Missing, BadValue, Memory}
 
@@ -19,3 +21,8 @@ Answers said answer = AnswersBy IsDue said answer
 abbrev pub Gives : {A B : Type 0} → (A → B) → Result A InputFault → Result B InputFault → Type 0
 Gives seen (Ok a) said = said ≡ Ok (seen a)
 Gives seen (Err fault) said = IsDue said fault
+
+-- the fault of a text that isn't read
+abbrev pub form_fault : FormFault → InputFault
+form_fault forms.Form = BadValue
+form_fault forms.Memory = Memory

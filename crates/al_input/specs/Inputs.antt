@@ -3,7 +3,7 @@ use Rattle.std.specs.Prelude.{⊤, ℕ, zero, suc, ◌+◌, ◌*◌, ◌==◌, B
 use Rattle.std.specs.Cmp.Lexicographic.{pointwise}
 use Rattle.std.specs.Option.{option_map}
 use Rattle.al_base.specs.Limits.{longest_alarm_text, longest_description, longest_operator_name, longest_operator_text, longest_qualifier, longest_resource, longest_shelf_name, most_identities, most_row_resources, most_rows, most_shelf_resources, most_shelf_types, most_status_changes}
-use Rattle.al_base.specs.Names.{event_type_name, rank_of, severity_name, state_name, status_name}
+use Rattle.al_base.specs.Names.{event_type_name, event_types, rank_of, severities, severity_name, state_name, states, status_name, statuses}
 use Rattle.al_base.specs.declared.event_type.EventType.{EventType}
 use Rattle.al_base.specs.declared.event_type.EventType.TheVariants.{Other}
 use Rattle.al_base.specs.declared.operator.OperatorState.{OperatorState}
@@ -29,14 +29,15 @@ use Rattle.al_types.specs.Inventories.{InventoryView}
 use Rattle.al_types.specs.Sound.{is_sound}
 use Rattle.al_types.specs.declared.row.Identity.{Identity}
 use Rattle.al_types.specs.declared.row.Row.{Row}
-use Rattle.al_uri.specs.Answers.{and_then}
+use Rattle.al_base.specs.Answers.{and_then}
 use Rattle.al_uri.specs.declared.target.Target.{Target}
 use Rattle.al_uri.specs.declared.target.Target.TheVariants as targets
 use Rattle.serde_json.specs.Data.{Data}
 use Rattle.serde_json.specs.Find.{as_str}
 use Rattle.al_input.specs.Members.{known_only, one_of, optional, required, with_default}
 use Rattle.al_input.specs.Readers.{flag, list, number, only, passed, pattern, resource_match, set, text, type_name, word}
-use Rattle.al_input.specs.Words.{clearance_name, clearances, event_types, mode_name, modes, severities, states, statuses}
+use Rattle.al_select.specs.Clearances.{clearance_name, clearances}
+use Rattle.al_notify.specs.Modes.{mode_name, modes}
 use Rattle.al_input.specs.declared.asked.Asked.{Asked}
 use Rattle.al_input.specs.declared.asked.Asked.TheVariants.{Whole, Operate}
 use Rattle.al_input.specs.declared.fault.InputFault.{InputFault}

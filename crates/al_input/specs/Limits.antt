@@ -3,7 +3,9 @@ use Rattle.std.specs.Prelude.{ℕ, Option, IfSome, List}
 use Rattle.al_base.specs.Limits.{IsOperatorText}
 use Rattle.al_base.specs.declared.operator.OperatorState.{OperatorState}
 use Rattle.al_ids.specs.declared.key.AlarmKey.{AlarmKey}
-use Rattle.al_model.specs.Limits.{IsKeyWithin, IsOperators, IsRequestWithin}
+use Rattle.al_model.specs.Limits.{IsRequestWithin}
+use Rattle.al_ids.specs.Limits.{IsKeyWithin}
+use Rattle.al_base.specs.Operators.{IsOperators}
 use Rattle.al_input.specs.declared.asked.Asked.{Asked}
 use Rattle.al_input.specs.declared.asked.Asked.TheVariants.{Whole, Operate}
 

@@ -4,13 +4,14 @@ use Rattle.std.specs.Cmp.Lexicographic.{pointwise}
 use Rattle.std.specs.List.{list_any}
 use Rattle.al_base.specs.Identifiers.{is_type_name}
 use Rattle.al_base.specs.Limits.{is_text}
-use Rattle.al_uri.specs.Answers.{and_then, each, or_fault}
+use Rattle.al_base.specs.Answers.{and_then, each, or_fault}
 use Rattle.al_uri.specs.TypeNames.{with_module}
 use Rattle.serde_json.specs.Data.{Data, Items, no_items, item}
 use Rattle.serde_json.specs.Find.{as_array, as_bool, as_number, as_str, as_u64, at}
-use Rattle.al_input.specs.Forms.{is_match, is_pattern_text}
+use Rattle.al_ids.specs.Forms.{is_match, is_pattern_text}
 use Rattle.al_input.specs.declared.fault.InputFault.{InputFault}
 use Rattle.al_input.specs.declared.fault.InputFault.TheVariants.{BadValue}
+use Rattle.al_base.specs.Repeats.{repeats}
 
 -- the value, where it passes the test
 unfoldable pub passed : {A : Type 0} → (A → Bool) → A → Result A InputFault
@@ -64,11 +65,6 @@ listed (item d ds) = d ∷ listed ds
 unfoldable pub list : {A : Type 0} → ℕ → (Data → Result A InputFault) → Data → Result (List A) InputFault
 list most read d =
     and_then (or_fault BadValue (as_array d)) (λ ds. if nat_le (length (listed ds)) most then each read (listed ds) else Err BadValue)
-
--- Some value is the same as a later one.
-abbrev pub repeats : {A : Type 0} → (A → A → Bool) → List A → Bool
-repeats same [] = false
-repeats same (a ∷ rest) = list_any (same a) rest || repeats same rest
 
 -- a list without repeats, for which it is tested after all its values
 unfoldable pub set : {A : Type 0} → ℕ → (A → A → Bool) → (Data → Result A InputFault) → Data → Result (List A) InputFault

@@ -12,6 +12,7 @@ use crate::member::{check_names, optional, required};
 use crate::reader::Reader;
 use crate::text::TextOf;
 use crate::word::WordOf;
+use al_base::limits::LONGEST_OPERATOR_TEXT;
 use al_base::{Copied, OperatorState, Text};
 use al_ids::AlarmKey;
 use serde_json::Value;
@@ -60,7 +61,7 @@ impl Reader for ActionFields {
             &["state", "ietf-alarms:state", "text", "ietf-alarms:text"],
         )?;
         let state = required::<OperatorsState>(alloc, value, "state", "ietf-alarms:state")?;
-        let text = optional::<TextOf<0, 255>>(alloc, value, "text", "ietf-alarms:text")?;
+        let text = optional::<TextOf<0, LONGEST_OPERATOR_TEXT>>(alloc, value, "text", "ietf-alarms:text")?;
         Ok((state, text))
     }
 }

@@ -10,6 +10,7 @@ use crate::fault::InputFault;
 use crate::member::{check_names, optional};
 use crate::reader::Reader;
 use crate::text::{MatchText, TextOf, TypeName};
+use al_base::limits::LONGEST_QUALIFIER;
 use al_model::{Request, Side};
 use al_select::CompressFilter;
 use serde_json::Value;
@@ -43,7 +44,7 @@ impl Reader for CompressFields {
             "alarm-type-id",
             "ietf-alarms:alarm-type-id",
         )?;
-        let qualifier = optional::<TextOf<0, 255>>(
+        let qualifier = optional::<TextOf<0, LONGEST_QUALIFIER>>(
             alloc,
             value,
             "alarm-type-qualifier",

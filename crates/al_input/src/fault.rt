@@ -1,3 +1,4 @@
+use al_base::FormFault;
 use std::alloc::{AllocError, AllocFailed};
 use std::error::Error;
 use std::fmt;
@@ -13,6 +14,20 @@ pub enum InputFault {
     BadValue,
     /// There was no memory for what is asked.
     Memory,
+}
+
+impl From<FormFault> for InputFault {
+    ghost use Rattle.std.specs.Prelude.{◌≡◌};
+    ghost use Rattle.al_input.specs.Faults.{form_fault};
+
+    ghost from_gives = { λ form fault. fault ≡ form_fault form };
+
+    fn from(fault: FormFault) -> InputFault {
+        match fault {
+            FormFault::Form => InputFault::BadValue,
+            FormFault::Memory => InputFault::Memory,
+        }
+    }
 }
 
 impl From<AllocError> for InputFault {

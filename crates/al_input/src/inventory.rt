@@ -15,6 +15,9 @@ use crate::number::Flag;
 use crate::reader::Reader;
 use crate::text::{TextOf, TypeName, text_or_empty};
 use crate::word::WordOf;
+use al_base::limits::{
+    LONGEST_DESCRIPTION, LONGEST_RESOURCE, MOST_IDENTITIES, MOST_ROW_RESOURCES, MOST_ROWS,
+};
 use al_base::{EventType, List, Severity, Text, TypeId};
 use al_model::Request;
 use al_types::{Identity, Inventory, InventoryFault, Row};
@@ -129,7 +132,7 @@ fn row_clears(alloc: Global, value: &Value) -> Result<bool, InputFault>
 fn row_description(alloc: Global, value: &Value) -> Result<Text, InputFault>
     ensures { Answers (row_description (view value.now)) result }
 {
-    required::<TextOf<0, 255>>(alloc, value, "description", "alarmd:description")
+    required::<TextOf<0, LONGEST_DESCRIPTION>>(alloc, value, "description", "alarmd:description")
 }
 
 #[tactic(auto, unfolding(crate::specs::Inputs::row_qualifier))]
@@ -148,7 +151,7 @@ fn row_qualifier(alloc: Global, value: &Value) -> Result<Text, InputFault>
 fn row_resources(alloc: Global, value: &Value) -> Result<List<Text>, InputFault>
     ensures { Answers (row_resources (view value.now)) result }
 {
-    list_or_none::<TextOf<1, 512>, 64>(alloc, value, "resource", "alarmd:resource")
+    list_or_none::<TextOf<1, LONGEST_RESOURCE>, MOST_ROW_RESOURCES>(alloc, value, "resource", "alarmd:resource")
 }
 
 #[tactic(auto, unfolding(crate::specs::Inputs::row_severities))]
@@ -220,13 +223,13 @@ impl Reader for InventoryFields {
                 "alarmd:alarm-type",
             ],
         )?;
-        let identities = list_or_none::<IdentityFields, 2000>(
+        let identities = list_or_none::<IdentityFields, MOST_IDENTITIES>(
             alloc,
             value,
             "identity",
             "alarmd:identity",
         )?;
-        let rows = list_or_none::<RowFields, 2000>(
+        let rows = list_or_none::<RowFields, MOST_ROWS>(
             alloc,
             value,
             "alarm-type",
@@ -237,7 +240,7 @@ impl Reader for InventoryFields {
 }
 
 /// The inventory of these lists, where they make one.
-#[tactic(auto, using(crate::proofs::InventoryTests::sound_holds, crate::proofs::InventoryTests::unsound_fails), unfolding(crate::specs::Inputs::built))]
+#[tactic(auto, using(al_types::proofs::InventoryTests::sound_holds, al_types::proofs::InventoryTests::unsound_fails), unfolding(crate::specs::Inputs::built))]
 fn built(
     alloc: Global,
     identities: List<Identity>,

@@ -2,16 +2,16 @@
 
 ghost use Rattle.al_input.specs.Faults.{Answers, Gives};
 ghost use Rattle.al_input.specs.Members.{with_default};
-ghost use Rattle.al_input.specs.Readers.{list, only, repeats, set};
-ghost use Rattle.al_uri.specs.Answers.{each};
+ghost use Rattle.al_input.specs.Readers.{list, only, set};
+ghost use Rattle.al_base.specs.Answers.{each};
 ghost use Rattle.serde_json.specs.View.{view};
-ghost use Rattle.std.specs.List.{list_any};
 ghost use Rattle.std.specs.Prelude.{◌≡◌, [], map};
 
 use crate::fault::InputFault;
 use crate::member::optional;
 use crate::reader::Reader;
 use al_base::List;
+use al_base::repeats::repeats;
 use serde_json::Value;
 use std::alloc::Global;
 use std::marker::PhantomData;
@@ -67,31 +67,6 @@ where
     }
 }
 
-/// Whether some value is the same as a later one.
-fn repeats<T: PartialEq>(values: &[T]) -> bool
-    ensures { result ≡ repeats T.eq values.now }
-{
-    let mut rest = values;
-    while let Some((first, later)) = rest.split_first() {
-        if is_in(first, later) {
-            return true;
-        }
-        rest = later;
-    }
-    false
-}
-
-fn is_in<T: PartialEq>(value: &T, values: &[T]) -> bool
-    ensures { result ≡ list_any (T.eq value.now) values.now }
-{
-    for other in values {
-        if value == other {
-            return true;
-        }
-    }
-    false
-}
-
 /// The one value of a list that has no other.
 #[tactic(auto, unfolding(crate::specs::Readers::only))]
 pub fn only(value: &Value) -> Result<&Value, InputFault>
@@ -110,7 +85,8 @@ pub fn list_or_none<R: Reader, const MOST: usize>(
     plain: &str,
     qualified: &str,
 ) -> Result<List<R::Output>, InputFault>
-    ensures { Answers (with_default [] plain.now qualified.now (list MOST R.reads) (view value.now)) result }
+    ensures { Answers (with_default [] plain.now qualified.now (list MOST R.reads) (view value.now))
+        result }
 {
     match optional::<ListOf<R, MOST>>(alloc, value, plain, qualified)? {
         Some(values) => Ok(values),
@@ -127,7 +103,8 @@ pub fn set_or_none<R: Reader, const MOST: usize>(
 ) -> Result<List<R::Output>, InputFault>
 where
     R::Output: PartialEq,
-    ensures { Answers (with_default [] plain.now qualified.now (set MOST R.Output.eq R.reads) (view value.now)) result }
+    ensures { Answers (with_default [] plain.now qualified.now (set MOST R.Output.eq R.reads)
+        (view value.now)) result }
 {
     match optional::<SetOf<R, MOST>>(alloc, value, plain, qualified)? {
         Some(values) => Ok(values),

@@ -25,7 +25,8 @@ pub fn check_names(value: &Value, known: &[&str]) -> Result<(), InputFault>
 }
 
 fn are_known(members: &Map<String, Value>, known: &[&str]) -> bool
-    ensures { result ≡ list_all (is_among (map (λ name. name.now) known.now)) (names_in (members_view members.now.entries)) }
+    ensures { result ≡ list_all (is_among (map (λ name. name.now) known.now))
+        (names_in (members_view members.now.entries)) }
 {
     for name in members.keys() {
         if !is_among(name.as_str(), known) {
@@ -53,7 +54,8 @@ pub fn value_at<'v>(
     plain: &str,
     qualified: &str,
 ) -> Result<Option<&'v Value>, InputFault>
-    ensures { Gives (option_map (λ v. view v.now)) result (value_at plain.now qualified.now (view value.now)) }
+    ensures { Gives (option_map (λ v. view v.now)) result
+        (value_at plain.now qualified.now (view value.now)) }
 {
     match (value.get(plain), value.get(qualified)) {
         (None, found) => Ok(found),
@@ -102,7 +104,8 @@ pub fn or_default<R: Reader>(
     qualified: &str,
     default: R::Output,
 ) -> Result<R::Output, InputFault>
-    ensures { Answers (with_default default plain.now qualified.now R.reads (view value.now)) result }
+    ensures { Answers (with_default default plain.now qualified.now R.reads (view value.now))
+        result }
 {
     match optional::<R>(alloc, value, plain, qualified)? {
         Some(found) => Ok(found),

@@ -4,18 +4,20 @@ ghost use Rattle.al_input.specs.Faults.{Answers};
 ghost use Rattle.al_input.specs.Inputs.{body, report, report_qualifier, report_resource, report_status, report_text, report_type};
 ghost use Rattle.al_input.specs.Plain.{NamesInput, input_tree, members_at, members_said, tree_of};
 ghost use Rattle.al_model.specs.Limits.{IsRequestWithin};
-ghost use Rattle.al_uri.specs.Answers.{or_fault};
+ghost use Rattle.al_base.specs.Answers.{or_fault};
 ghost use Rattle.json.specs.Token as token;
 ghost use Rattle.serde_json.specs.Data.{Data, Members, no_members, object, put, string};
 ghost use Rattle.serde_json.specs.Read.{read};
 ghost use Rattle.std.specs.Prelude.{◌≡◌, ◌≤◌, [], ◌∷◌, IfOk, IfSome, IsUtf8, List, MatchResult, Some, Ok, Err, codes, length, option_copied, true, ℕ};
 
 use crate::fault::InputFault;
-use crate::text::{empty_text, resource_of, text_of, type_of};
+use crate::text::empty_text;
 use crate::word::Word;
-use al_base::{Status, Text, TypeId};
-use al_ids::{AlarmKey, Resource};
+use al_base::limits::{LONGEST_ALARM_TEXT, LONGEST_QUALIFIER};
+use al_base::{Status, Text, TypeId, read_text};
+use al_ids::{AlarmKey, Resource, read_resource};
 use al_model::Request;
+use al_uri::read_type;
 use json::{Reader, Scratch, Token};
 use std::alloc::Global;
 use std::str;
@@ -32,7 +34,8 @@ struct Said<'t> {
 
 /// A text that has to be there.
 fn needed(text: Option<&str>) -> Result<&[u8], InputFault>
-    ensures { MatchResult result (λ bytes. or_fault InputFault.Missing (option_copied text.entry) ≡ Ok bytes.now)
+    ensures { MatchResult result (λ bytes. or_fault InputFault.Missing (option_copied text.entry)
+        ≡ Ok bytes.now)
         (λ fault. or_fault InputFault.Missing (option_copied text.entry) ≡ Err fault) }
 {
     match text {
@@ -45,7 +48,8 @@ impl<'t> Said<'t> {
     /// With this text in the place of a member, if the name is of one.
     #[tactic(auto, using(crate::proofs::PlainLemmas::put_text, crate::proofs::PlainLemmas::put_type, crate::proofs::PlainLemmas::put_qualifier, crate::proofs::PlainLemmas::put_severity, crate::proofs::PlainLemmas::put_resource))]
     fn with(self, name: &str, text: &'t str) -> Option<Said<'t>>
-        ensures { IfSome result (λ said. put name.now (string text.now) (members_said self.entry) ≡ members_said said) }
+        ensures { IfSome result (λ said. put name.now (string text.now) (members_said self.entry)
+            ≡ members_said said) }
     {
         let name = name.as_bytes();
         let given = Some(text);
@@ -77,14 +81,14 @@ impl<'t> Said<'t> {
     fn resource(&self, alloc: Global) -> Result<Resource, InputFault>
         ensures { Answers (report_resource (object (members_said self.now))) result }
     {
-        resource_of(alloc, needed(self.resource)?)
+        Ok(read_resource(alloc, needed(self.resource)?)?)
     }
 
     #[tactic(auto, using(crate::proofs::PlainLemmas::type_said))]
     fn type_id(&self, alloc: Global) -> Result<TypeId, InputFault>
         ensures { Answers (report_type (object (members_said self.now))) result }
     {
-        type_of(alloc, needed(self.type_id)?)
+        Ok(read_type(alloc, needed(self.type_id)?)?)
     }
 
     #[tactic(auto, using(crate::proofs::PlainLemmas::status_said))]
@@ -101,7 +105,7 @@ impl<'t> Said<'t> {
     fn text(&self, alloc: Global) -> Result<Text, InputFault>
         ensures { Answers (report_text (object (members_said self.now))) result }
     {
-        text_of(alloc, 0, 255, needed(self.text)?)
+        Ok(read_text(alloc, 0, LONGEST_ALARM_TEXT, needed(self.text)?)?)
     }
 
     #[tactic(auto, using(crate::proofs::PlainLemmas::qualifier_said))]
@@ -109,7 +113,7 @@ impl<'t> Said<'t> {
         ensures { Answers (report_qualifier (object (members_said self.now))) result }
     {
         match self.qualifier {
-            Some(qualifier) => text_of(alloc, 0, 255, qualifier.as_bytes()),
+            Some(qualifier) => Ok(read_text(alloc, 0, LONGEST_QUALIFIER, qualifier.as_bytes())?),
             None => empty_text(alloc),
         }
     }
@@ -157,7 +161,8 @@ fn next_text<'t>(reader: &mut Reader<'t>) -> Option<&'t str>
 
 /// The members up to the brace that closes their object, if they are texts of a report, each there once. So it calls itself at most once for each.
 fn read_members<'t>(reader: &mut Reader<'t>, said: Said<'t>) -> Option<Said<'t>>
-    ensures { IfSome result (λ all. (n : ℕ) → length reader.old ≤ n → members_at n (members_said said.entry) reader.old ≡ Some (members_said all, reader.new)) }
+    ensures { IfSome result (λ all. (n : ℕ) → length reader.old ≤ n
+        → members_at n (members_said said.entry) reader.old ≡ Some (members_said all, reader.new)) }
 {
     match reader.next_key() {
         Ok(Some(name)) => {
@@ -179,7 +184,8 @@ fn opens(reader: &mut Reader<'_>) -> bool
 
 /// Takes the name of the body's member, if it is next.
 fn names_input(reader: &mut Reader<'_>) -> bool
-    ensures { result ≡ true → (name : List ℕ) × NamesInput name × (reader.old ≡ token.key name ∷ reader.new) }
+    ensures { result ≡ true → (name : List ℕ) × NamesInput name
+        × (reader.old ≡ token.key name ∷ reader.new) }
 {
     match reader.next() {
         Some(Token::Key(name)) => {
@@ -200,7 +206,8 @@ fn ends(reader: &mut Reader<'_>) -> bool
 /// The whole body.
 #[tactic(auto, using(crate::proofs::PlainLemmas::body_read))]
 fn read_body<'t>(reader: &mut Reader<'t>) -> Option<Said<'t>>
-    ensures { IfSome result (λ said. (name : List ℕ) × NamesInput name × (tree_of reader.old ≡ Some (input_tree name (members_said said)))) }
+    ensures { IfSome result (λ said. (name : List ℕ) × NamesInput name
+        × (tree_of reader.old ≡ Some (input_tree name (members_said said)))) }
 {
     if !opens(reader) || !names_input(reader) || !opens(reader) {
         return None;
@@ -214,7 +221,9 @@ fn read_body<'t>(reader: &mut Reader<'t>) -> Option<Said<'t>>
 
 /// What the body of a report asks, if its members are texts, and no others but a report's plain names. None tells nothing.
 pub fn plain_report(alloc: Global, bytes: &[u8]) -> Option<Result<Request, InputFault>>
-    ensures exact { IfSome result (λ answer. (d : Data) × IsUtf8 bytes.now × (read bytes.now ≡ Some d) × Answers (body (codes "input") (codes "alarmd:input") report d) answer) }
+    ensures exact { IfSome result (λ answer. (d : Data) × IsUtf8 bytes.now
+        × (read bytes.now ≡ Some d)
+        × Answers (body (codes "input") (codes "alarmd:input") report d) answer) }
     ensures within { IfSome result (λ answer. IfOk answer IsRequestWithin) }
 {
     let Ok(text) = str::from_utf8(bytes) else {

@@ -12,6 +12,7 @@ use crate::number::NumberOf;
 use crate::reader::Reader;
 use crate::text::TextOf;
 use crate::word::WordOf;
+use al_base::limits::{LONGEST_OPERATOR_NAME, MOST_AGE_UNITS};
 use al_base::{OperatorState, Severity, Text};
 use al_model::{Request, Side};
 use al_select::{Clearance, Compare, PurgeFilter};
@@ -63,7 +64,7 @@ fn in_unit(
 ) -> Result<Option<u64>, InputFault>
     ensures { Answers (in_unit unit plain.now qualified.now earlier (view value.now)) result }
 {
-    let count = optional::<NumberOf<0, 65535>>(alloc, value, plain, qualified)?;
+    let count = optional::<NumberOf<0, MOST_AGE_UNITS>>(alloc, value, plain, qualified)?;
     one_of(earlier, count.map(|n| u64::from(n) * u64::from(unit)))
 }
 
@@ -189,7 +190,7 @@ impl Reader for NewestFields {
             &["state", "ietf-alarms:state", "user", "ietf-alarms:user"],
         )?;
         let state = optional::<WordOf<OperatorState>>(alloc, value, "state", "ietf-alarms:state")?;
-        let user = optional::<TextOf<0, 64>>(alloc, value, "user", "ietf-alarms:user")?;
+        let user = optional::<TextOf<0, LONGEST_OPERATOR_NAME>>(alloc, value, "user", "ietf-alarms:user")?;
         Ok((state, user))
     }
 }

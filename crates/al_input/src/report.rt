@@ -11,6 +11,7 @@ use crate::member::{check_names, required};
 use crate::reader::Reader;
 use crate::text::{ResourceText, TextOf, TypeName, text_or_empty};
 use crate::word::WordOf;
+use al_base::limits::LONGEST_ALARM_TEXT;
 use al_base::{Status, Text, TypeId};
 use al_ids::{AlarmKey, Resource};
 use al_model::Request;
@@ -68,7 +69,7 @@ fn report_status(alloc: Global, value: &Value) -> Result<Status, InputFault>
 fn report_text(alloc: Global, value: &Value) -> Result<Text, InputFault>
     ensures { Answers (report_text (view value.now)) result }
 {
-    required::<TextOf<0, 255>>(alloc, value, "alarm-text", "alarmd:alarm-text")
+    required::<TextOf<0, LONGEST_ALARM_TEXT>>(alloc, value, "alarm-text", "alarmd:alarm-text")
 }
 
 #[tactic(auto, unfolding(crate::specs::Inputs::report_qualifier))]

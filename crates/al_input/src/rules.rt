@@ -10,6 +10,7 @@ use crate::fault::InputFault;
 use crate::number::NumberOf;
 use crate::reader::Reader;
 use crate::word::WordOf;
+use al_base::limits::MOST_STATUS_CHANGES;
 use al_base::Severity;
 use al_model::Request;
 use al_notify::Mode;
@@ -29,7 +30,7 @@ impl Reader for Maximum {
         match value.as_str() {
             Some("infinite") => Ok(None),
             Some(_) => Err(InputFault::BadValue),
-            None => Ok(Some(NumberOf::<1, 65535>::read(alloc, value)?)),
+            None => Ok(Some(NumberOf::<1, MOST_STATUS_CHANGES>::read(alloc, value)?)),
         }
     }
 }

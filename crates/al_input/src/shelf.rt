@@ -13,6 +13,9 @@ use crate::list::{only, set_or_none};
 use crate::member::{check_names, optional, required, value_at};
 use crate::reader::Reader;
 use crate::text::{MatchText, PatternText, TextOf, TypeName};
+use al_base::limits::{
+    LONGEST_DESCRIPTION, LONGEST_SHELF_NAME, MOST_SHELF_RESOURCES, MOST_SHELF_TYPES,
+};
 use al_base::{Copied, List, Text, TypeId};
 use al_ids::ResourceMatch;
 use al_model::Request;
@@ -104,28 +107,28 @@ fn shelf_names(value: &Value) -> Result<(), InputFault>
 fn shelf_name(alloc: Global, value: &Value) -> Result<Text, InputFault>
     ensures { Answers (shelf_name (view value.now)) result }
 {
-    required::<TextOf<1, 64>>(alloc, value, "name", "ietf-alarms:name")
+    required::<TextOf<1, LONGEST_SHELF_NAME>>(alloc, value, "name", "ietf-alarms:name")
 }
 
 #[tactic(auto, unfolding(crate::specs::Inputs::shelf_resources))]
 fn shelf_resources(alloc: Global, value: &Value) -> Result<List<ResourceMatch>, InputFault>
     ensures { Answers (shelf_resources (view value.now)) result }
 {
-    set_or_none::<MatchText, 64>(alloc, value, "resource", "ietf-alarms:resource")
+    set_or_none::<MatchText, MOST_SHELF_RESOURCES>(alloc, value, "resource", "ietf-alarms:resource")
 }
 
 #[tactic(auto, unfolding(crate::specs::Inputs::shelf_types))]
 fn shelf_types(alloc: Global, value: &Value) -> Result<List<TypeMatch>, InputFault>
     ensures { Answers (shelf_types (view value.now)) result }
 {
-    set_or_none::<CriterionFields, 64>(alloc, value, "alarm-type", "ietf-alarms:alarm-type")
+    set_or_none::<CriterionFields, MOST_SHELF_TYPES>(alloc, value, "alarm-type", "ietf-alarms:alarm-type")
 }
 
 #[tactic(auto, unfolding(crate::specs::Inputs::shelf_description))]
 fn shelf_description(alloc: Global, value: &Value) -> Result<Option<Text>, InputFault>
     ensures { Answers (shelf_description (view value.now)) result }
 {
-    optional::<TextOf<0, 255>>(alloc, value, "description", "ietf-alarms:description")
+    optional::<TextOf<0, LONGEST_DESCRIPTION>>(alloc, value, "description", "ietf-alarms:description")
 }
 
 /// The shelf of an object; its name is to be this one, where one is wanted.
@@ -152,7 +155,8 @@ fn shelf(alloc: Global, wanted: Option<&Text>, value: &Value) -> Result<Shelf, I
 /// The one value in the list that the body has for a shelf.
 #[tactic(auto, using(crate::proofs::Due::fault_first), unfolding(crate::specs::Members::required, crate::specs::Members::known_only))]
 fn shelf_value(value: &Value) -> Result<&Value, InputFault>
-    ensures { Gives (λ v. view v.now) result (body (codes "shelf") (codes "ietf-alarms:shelf") only (view value.now)) }
+    ensures { Gives (λ v. view v.now) result
+        (body (codes "shelf") (codes "ietf-alarms:shelf") only (view value.now)) }
 {
     check_names(value, &["shelf", "ietf-alarms:shelf"])?;
     match value_at(value, "shelf", "ietf-alarms:shelf")? {

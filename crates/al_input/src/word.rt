@@ -44,8 +44,7 @@ impl<W: Word> Reader for WordOf<W> {
 }
 
 impl Word for Severity {
-    ghost use Rattle.al_base.specs.Names.{severity_name};
-    ghost use Rattle.al_input.specs.Words.{severities};
+    ghost use Rattle.al_base.specs.Names.{severities, severity_name};
 
     ghost name = { severity_name };
 
@@ -57,8 +56,7 @@ impl Word for Severity {
 }
 
 impl Word for Status {
-    ghost use Rattle.al_base.specs.Names.{status_name};
-    ghost use Rattle.al_input.specs.Words.{statuses};
+    ghost use Rattle.al_base.specs.Names.{status_name, statuses};
 
     ghost name = { status_name };
 
@@ -70,8 +68,7 @@ impl Word for Status {
 }
 
 impl Word for OperatorState {
-    ghost use Rattle.al_base.specs.Names.{state_name};
-    ghost use Rattle.al_input.specs.Words.{states};
+    ghost use Rattle.al_base.specs.Names.{state_name, states};
 
     ghost name = { state_name };
 
@@ -83,8 +80,7 @@ impl Word for OperatorState {
 }
 
 impl Word for EventType {
-    ghost use Rattle.al_base.specs.Names.{event_type_name};
-    ghost use Rattle.al_input.specs.Words.{event_types};
+    ghost use Rattle.al_base.specs.Names.{event_type_name, event_types};
 
     ghost name = { event_type_name };
 
@@ -96,7 +92,7 @@ impl Word for EventType {
 }
 
 impl Word for Mode {
-    ghost use Rattle.al_input.specs.Words.{mode_name, modes};
+    ghost use Rattle.al_notify.specs.Modes.{mode_name, modes};
 
     ghost name = { mode_name };
 
@@ -116,7 +112,7 @@ impl Word for Mode {
 }
 
 impl Word for Clearance {
-    ghost use Rattle.al_input.specs.Words.{clearance_name, clearances};
+    ghost use Rattle.al_select.specs.Clearances.{clearance_name, clearances};
 
     ghost name = { clearance_name };
 

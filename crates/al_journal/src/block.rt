@@ -27,7 +27,8 @@ impl Model for Block {
 
     ghost Value = { BlockView };
 
-    ghost view = { λ b. record { start = b.start; held = take b.count b.bytes.items; filled = b.filled } };
+    ghost view = { λ b. record { start = b.start; held = take b.count b.bytes.items;
+        filled = b.filled } };
 
     ghost invariant = { λ b. (length b.bytes.items ≡ 4096) × (b.count ≤ 4096) };
 }
@@ -62,8 +63,10 @@ impl Block {
     ) -> Result<usize, DiskFault>
         requires { place + length buf.old < 2 ^ 64 }
         ensures within { IfOk result (λ count. count ≤ length buf.new) }
-        ensures read { IfOk result (λ count. Told (D.told disk.old) (λ s. Holds self.old s.content → take count buf.new ≡ take (length buf.old) (drop place s.content))) }
-        ensures holds { Told (D.told disk.old) (λ s. Holds self.old s.content → Holds self.new s.content) }
+        ensures read { IfOk result (λ count. Told (D.told disk.old) (λ s. Holds self.old s.content
+            → take count buf.new ≡ take (length buf.old) (drop place s.content))) }
+        ensures holds { Told (D.told disk.old) (λ s. Holds self.old s.content
+            → Holds self.new s.content) }
         ensures same { D.told disk.new ≡ D.told disk.old }
         ensures later { D.faults disk.old ≤ D.faults disk.new }
         ensures cause { OnErr result (Rose (D.faults disk.old) (D.faults disk.new)) }
@@ -87,8 +90,11 @@ impl Block {
         buf: &mut [u8],
     ) -> Result<usize, DiskFault>
         ensures within { IfOk result (λ count. count ≤ length buf.new) }
-        ensures read { IfOk result (λ count. Told (D.told disk.old) (λ s. Holds self.old s.content → take count buf.new ≡ take (length buf.old) (take (4096 - place % 4096) (drop place s.content)))) }
-        ensures holds { Told (D.told disk.old) (λ s. Holds self.old s.content → Holds self.new s.content) }
+        ensures read { IfOk result (λ count. Told (D.told disk.old) (λ s. Holds self.old s.content
+            → take count buf.new ≡ take (length buf.old)
+            (take (4096 - place % 4096) (drop place s.content)))) }
+        ensures holds { Told (D.told disk.old) (λ s. Holds self.old s.content
+            → Holds self.new s.content) }
         ensures same { D.told disk.new ≡ D.told disk.old }
         ensures later { D.faults disk.old ≤ D.faults disk.new }
         ensures cause { OnErr result (Rose (D.faults disk.old) (D.faults disk.new)) }
@@ -101,7 +107,8 @@ impl Block {
     fn fetch<D: Disk>(&mut self, disk: &mut D, start: u64) -> Result<(), DiskFault>
         ensures filled { OnErr result (self.new.filled ≡ false) }
         ensures start { IfOk result (λ _. (self.new.filled ≡ true) × (self.new.start ≡ start)) }
-        ensures holds { Told (D.told disk.old) (λ s. Holds self.old s.content → Holds self.new s.content) }
+        ensures holds { Told (D.told disk.old) (λ s. Holds self.old s.content
+            → Holds self.new s.content) }
         ensures same { D.told disk.new ≡ D.told disk.old }
         ensures later { D.faults disk.old ≤ D.faults disk.new }
         ensures cause { OnErr result (Rose (D.faults disk.old) (D.faults disk.new)) }
@@ -122,7 +129,9 @@ fn fill<D: Disk>(disk: &mut D, start: u64, bytes: &mut Vec<u8>) -> Result<usize,
     requires { length bytes.old.items ≡ 4096 }
     ensures len { length bytes.new.items ≡ 4096 }
     ensures within { IfOk result (λ count. count ≤ 4096) }
-    ensures read { IfOk result (λ count. Told (D.told disk.old) (λ s. take count bytes.new.items ≡ take 4096 (drop start s.content))) }
+    ensures read { IfOk result (λ count.
+        Told (D.told disk.old) (λ s.
+        take count bytes.new.items ≡ take 4096 (drop start s.content))) }
     ensures same { D.told disk.new ≡ D.told disk.old }
     ensures later { D.faults disk.old ≤ D.faults disk.new }
     ensures cause { OnErr result (Rose (D.faults disk.old) (D.faults disk.new)) }

@@ -39,23 +39,36 @@ impl<D: Disk> Model for Journal<D> {
 
     ghost Value = { JournalView D };
 
-    ghost view = { λ j. record { disk = j.disk; capacity = j.capacity; gate = j.gate; next = j.next; count = j.count; doubt = j.doubt } };
+    ghost view = { λ j. record { disk = j.disk; capacity = j.capacity; gate = j.gate; next = j.next;
+        count = j.count; doubt = j.doubt } };
 
-    ghost invariant = { λ j. Told (D.told j.disk) (λ s. Holds j.block s.content) × IsCapacity j.capacity × (j.gate < j.capacity) × (j.next < j.capacity) × (j.count ≤ j.next) };
+    ghost invariant = { λ j. Told (D.told j.disk) (λ s. Holds j.block s.content)
+        × IsCapacity j.capacity × (j.gate < j.capacity) × (j.next < j.capacity)
+        × (j.count ≤ j.next) };
 }
 
 impl<D: Disk> Journal<D> {
     /// Opens the journal that a disk has. It takes memory for a block, syncs, asks the size, reads the birth and walks over the lengths to the shut
     /// gate. `NotAJournal` comes exactly where the disk begins with no whole birth, `TornLength` exactly where its walk ends so. The disk comes back.
     pub fn open(alloc: Global, disk: D) -> Result<Journal<D>, (D, OpenFault)>
-        ensures opens { IfOk result (λ journal. Goes (λ s t. Opens journal.capacity journal.gate s t) (D.told disk) (D.told journal.disk)) }
-        ensures allowed { IfOk result (λ journal. IsCapacity journal.capacity × (journal.gate < journal.capacity)) }
-        ensures start { IfOk result (λ journal. (journal.next ≡ 13) × (journal.count ≡ 0) × (journal.doubt ≡ false)) }
-        ensures refuses { IfErr result (λ refusal. Goes (λ s t. Refuses refusal.1 s t) (D.told disk) (D.told refusal.0)) }
-        ensures moments { MatchResult result (λ journal. Goes LeavesAsBefore (D.told disk) (D.told journal.disk)) (λ refusal. Goes LeavesAsBefore (D.told disk) (D.told refusal.0)) }
-        ensures untouched { IfErr result (λ refusal. refusal.1 ≡ OpenFault.Memory → refusal.0 ≡ disk) }
-        ensures later { MatchResult result (λ journal. D.faults disk ≤ D.faults journal.disk) (λ refusal. D.faults disk ≤ D.faults refusal.0) }
-        ensures cause { IfErr result (λ refusal. refusal.1 ≡ OpenFault.Disk → Rose (D.faults disk) (D.faults refusal.0)) }
+        ensures opens { IfOk result (λ journal.
+            Goes (λ s t. Opens journal.capacity journal.gate s t) (D.told disk)
+            (D.told journal.disk)) }
+        ensures allowed { IfOk result (λ journal. IsCapacity journal.capacity
+            × (journal.gate < journal.capacity)) }
+        ensures start { IfOk result (λ journal. (journal.next ≡ 13) × (journal.count ≡ 0)
+            × (journal.doubt ≡ false)) }
+        ensures refuses { IfErr result (λ refusal.
+            Goes (λ s t. Refuses refusal.1 s t) (D.told disk) (D.told refusal.0)) }
+        ensures moments { MatchResult result (λ journal.
+            Goes LeavesAsBefore (D.told disk) (D.told journal.disk)) (λ refusal.
+            Goes LeavesAsBefore (D.told disk) (D.told refusal.0)) }
+        ensures untouched { IfErr result (λ refusal. refusal.1 ≡ OpenFault.Memory
+            → refusal.0 ≡ disk) }
+        ensures later { MatchResult result (λ journal.
+            D.faults disk ≤ D.faults journal.disk) (λ refusal. D.faults disk ≤ D.faults refusal.0) }
+        ensures cause { IfErr result (λ refusal. refusal.1 ≡ OpenFault.Disk
+            → Rose (D.faults disk) (D.faults refusal.0)) }
     {
         let Ok(mut block) = Block::new(alloc) else {
             return Err((disk, OpenFault::Memory));
@@ -78,16 +91,24 @@ impl<D: Disk> Journal<D> {
     /// Reads the next payload of the walk into `buf`; false at the shut gate, which ends the walk.
     /// `TornLength` comes only where a disk that tells nothing gives other bytes than it gave at opening.
     pub fn next(&mut self, buf: &mut Vec<u8>) -> Result<bool, OpenFault>
-        ensures next { Told (D.told self.old.disk) (λ s. (payloads : List (List ℕ)) (count : ℕ) → Shows self.old.capacity payloads s.content → count ≤ length payloads → self.old.next ≡ gate_of (take count payloads) → IsNext payloads count self.old.next result buf.new.items self.new.next) }
-        ensures more { result ≡ Ok true → self.new ≡ record self.old { disk = self.new.disk; next = self.old.next + 5 + length buf.new.items; count = self.old.count + 1 } }
-        ensures end { result ≡ Ok false → self.new ≡ record self.old { disk = self.new.disk; gate = self.old.next } }
+        ensures next { Told (D.told self.old.disk) (λ s. (payloads : List (List ℕ)) (count : ℕ)
+            → Shows self.old.capacity payloads s.content → count ≤ length payloads
+            → self.old.next ≡ gate_of (take count payloads)
+            → IsNext payloads count self.old.next result buf.new.items self.new.next) }
+        ensures more { result ≡ Ok true
+            → self.new ≡ record self.old { disk = self.new.disk;
+            next = self.old.next + 5 + length buf.new.items; count = self.old.count + 1 } }
+        ensures end { result ≡ Ok false
+            → self.new ≡ record self.old { disk = self.new.disk; gate = self.old.next } }
         ensures refused { OnErr result (self.new ≡ record self.old { disk = self.new.disk }) }
-        ensures torn { (count : ℕ) → result ≡ Err (OpenFault.TornLength count) → count ≡ self.old.count }
+        ensures torn { (count : ℕ) → result ≡ Err (OpenFault.TornLength count)
+            → count ≡ self.old.count }
         ensures no_birth { result ≡ Err OpenFault.NotAJournal → ⊥ }
         ensures room { self.new.next < self.new.capacity }
         ensures same { D.told self.new.disk ≡ D.told self.old.disk }
         ensures later { D.faults self.old.disk ≤ D.faults self.new.disk }
-        ensures cause { result ≡ Err OpenFault.Disk → Rose (D.faults self.old.disk) (D.faults self.new.disk) }
+        ensures cause { result ≡ Err OpenFault.Disk
+            → Rose (D.faults self.old.disk) (D.faults self.new.disk) }
     {
         match read_frame(
             &mut self.disk,
@@ -114,16 +135,23 @@ impl<D: Disk> Journal<D> {
     pub fn commit(&mut self, piece: &Record) -> Result<(), CommitFault>
         requires sure { self.old.doubt ≡ false }
         requires walked { self.old.next ≡ self.old.gate }
-        requires stands { Told (D.told self.old.disk) (λ s. (payloads : List (List ℕ)) × Stands self.old.capacity self.old.gate payloads s) }
-        ensures leaves { Goes (λ s t. (payloads : List (List ℕ)) → Stands self.old.capacity self.old.gate payloads s → Commits self.old.capacity self.old.gate piece.now result self.new.doubt payloads s t) (D.told self.old.disk) (D.told self.new.disk) }
-        ensures ok { result ≡ Ok tt → (self.new.gate ≡ self.old.gate + 5 + length piece.now) × (self.new.doubt ≡ false) }
+        requires stands { Told (D.told self.old.disk) (λ s. (payloads : List (List ℕ))
+            × Stands self.old.capacity self.old.gate payloads s) }
+        ensures leaves { Goes (λ s t. (payloads : List (List ℕ))
+            → Stands self.old.capacity self.old.gate payloads s
+            → Commits self.old.capacity self.old.gate piece.now result self.new.doubt payloads s t)
+            (D.told self.old.disk) (D.told self.new.disk) }
+        ensures ok { result ≡ Ok tt → (self.new.gate ≡ self.old.gate + 5 + length piece.now)
+            × (self.new.doubt ≡ false) }
         ensures refused { OnErr result (self.new.gate ≡ self.old.gate) }
-        ensures full { (result ≡ Err CommitFault.Full) ↔ (self.old.capacity < self.old.gate + 6 + length piece.now) }
+        ensures full { (result ≡ Err CommitFault.Full)
+            ↔ (self.old.capacity < self.old.gate + 6 + length piece.now) }
         ensures untouched { result ≡ Err CommitFault.Full → self.new ≡ self.old }
         ensures walked { self.new.next ≡ self.new.gate }
         ensures capacity { self.new.capacity ≡ self.old.capacity }
         ensures later { D.faults self.old.disk ≤ D.faults self.new.disk }
-        ensures cause { result ≡ Err CommitFault.Disk → Rose (D.faults self.old.disk) (D.faults self.new.disk) }
+        ensures cause { result ≡ Err CommitFault.Disk
+            → Rose (D.faults self.old.disk) (D.faults self.new.disk) }
     {
         let end = self.gate + 5 + piece.payload_len();
         if end >= self.capacity {
@@ -142,8 +170,14 @@ impl<D: Disk> Journal<D> {
 
     /// Ends a doubt: shuts the gate and syncs. Without a doubt it does nothing.
     pub fn settle(&mut self) -> Result<(), CommitFault>
-        requires { self.old.doubt ≡ true → Told (D.told self.old.disk) (λ s. (payloads : List (List ℕ)) × (payload : List ℕ) × InDoubt self.old.capacity self.old.gate payloads payload s) }
-        ensures leaves { self.old.doubt ≡ true → Goes (λ s t. (payloads : List (List ℕ)) (payload : List ℕ) → InDoubt self.old.capacity self.old.gate payloads payload s → Settles self.old.capacity self.old.gate result self.new.doubt payloads payload s t) (D.told self.old.disk) (D.told self.new.disk) }
+        requires { self.old.doubt ≡ true
+            → Told (D.told self.old.disk) (λ s. (payloads : List (List ℕ)) × (payload : List ℕ)
+            × InDoubt self.old.capacity self.old.gate payloads payload s) }
+        ensures leaves { self.old.doubt ≡ true
+            → Goes (λ s t. (payloads : List (List ℕ)) (payload : List ℕ)
+            → InDoubt self.old.capacity self.old.gate payloads payload s
+            → Settles self.old.capacity self.old.gate result self.new.doubt payloads payload s t)
+            (D.told self.old.disk) (D.told self.new.disk) }
         ensures idle { self.old.doubt ≡ false → IsOk result × (self.new ≡ self.old) }
         ensures ok { result ≡ Ok tt → self.new.doubt ≡ false }
         ensures same { self.new ≡ record self.old { disk = self.new.disk; doubt = self.new.doubt } }

@@ -31,7 +31,8 @@ pub enum Found {
 /// A first byte that is there and isn't 01 is left, because a write to it could leave 01 before an old birth.
 pub fn birth<D: Disk>(disk: &mut D, capacity: u64) -> Result<(), BirthFault>
     ensures bears { Goes (λ s t. Bears capacity result s t) (D.told disk.old) (D.told disk.new) }
-    ensures bad_capacity { (result ≡ Err BirthFault.BadCapacity) ↔ ((capacity < 4096) ⊎ (268435456 < capacity)) }
+    ensures bad_capacity { (result ≡ Err BirthFault.BadCapacity)
+        ↔ ((capacity < 4096) ⊎ (268435456 < capacity)) }
     ensures untouched { result ≡ Err BirthFault.BadCapacity → disk.new ≡ disk.old }
     ensures later { D.faults disk.old ≤ D.faults disk.new }
     ensures cause { result ≡ Err BirthFault.Disk → Rose (D.faults disk.old) (D.faults disk.new) }
@@ -63,7 +64,8 @@ fn look<D: Disk>(disk: &mut D) -> Result<Found, DiskFault>
 
 /// What the size and the first 14 bytes say.
 fn found_in(size: u64, front: &[u8]) -> Found
-    ensures { (content : List ℕ) → size ≡ length content → front.now ≡ take 14 content → IsFound result content }
+    ensures { (content : List ℕ) → size ≡ length content → front.now ≡ take 14 content
+        → IsFound result content }
 {
     if capacity_in(front).is_some() {
         return Found::Made;
@@ -79,7 +81,8 @@ fn make<D: Disk>(disk: &mut D, found: Found, capacity: u64) -> Result<(), DiskFa
     requires allowed { IsCapacity capacity }
     requires found { Told (D.told disk.old) (λ s. IsFound found s.content) }
     requires unmade { found ≡ Found.Made → ⊥ }
-    ensures made { Goes (λ s t. Fills (IsFound found) capacity result s t) (D.told disk.old) (D.told disk.new) }
+    ensures made { Goes (λ s t.
+        Fills (IsFound found) capacity result s t) (D.told disk.old) (D.told disk.new) }
     ensures later { D.faults disk.old ≤ D.faults disk.new }
     ensures cause { OnErr result (Rose (D.faults disk.old) (D.faults disk.new)) }
 {
@@ -94,7 +97,8 @@ fn make<D: Disk>(disk: &mut D, found: Found, capacity: u64) -> Result<(), DiskFa
 fn fill<D: Disk>(disk: &mut D, capacity: u64) -> Result<(), DiskFault>
     requires allowed { IsCapacity capacity }
     requires shut { Told (D.told disk.old) (λ s. StartsShut s.content) }
-    ensures filled { Goes (λ s t. Fills StartsShut capacity result s t) (D.told disk.old) (D.told disk.new) }
+    ensures filled { Goes (λ s t.
+        Fills StartsShut capacity result s t) (D.told disk.old) (D.told disk.new) }
     ensures later { D.faults disk.old ≤ D.faults disk.new }
     ensures cause { OnErr result (Rose (D.faults disk.old) (D.faults disk.new)) }
 {

@@ -20,7 +20,9 @@ impl Model for Record {
 
     ghost view = { λ r. take (length r.bytes.items - 5) (drop 4 r.bytes.items) };
 
-    ghost invariant = { λ r. (r.bytes.items ≡ piece_of (take (length r.bytes.items - 5) (drop 4 r.bytes.items))) × (length r.bytes.items ≤ 268435461) };
+    ghost invariant = { λ r. (r.bytes.items
+        ≡ piece_of (take (length r.bytes.items - 5) (drop 4 r.bytes.items)))
+        × (length r.bytes.items ≤ 268435461) };
 }
 
 impl Record {

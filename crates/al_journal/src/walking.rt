@@ -38,7 +38,8 @@ pub fn find<D: Disk>(disk: &mut D, block: &mut Block) -> Result<Opened, OpenFaul
     ensures as_it_read { Told (D.told disk.old) ReadsAsAnImage }
     ensures finds { Goes (λ s t. Finds result s t) (D.told disk.old) (D.told disk.new) }
     ensures holds { Told (D.told disk.new) (λ s. Holds block.new s.content) }
-    ensures opened { IfOk result (λ opened. IsCapacity opened.capacity × (opened.gate < opened.capacity)) }
+    ensures opened { IfOk result (λ opened. IsCapacity opened.capacity
+        × (opened.gate < opened.capacity)) }
     ensures no_memory { result ≡ Err OpenFault.Memory → ⊥ }
     ensures later { D.faults disk.old ≤ D.faults disk.new }
     ensures cause { result ≡ Err OpenFault.Disk → Rose (D.faults disk.old) (D.faults disk.new) }
@@ -54,9 +55,11 @@ pub fn find<D: Disk>(disk: &mut D, block: &mut Block) -> Result<Opened, OpenFaul
 
 /// Reads the capacity of the birth at the front.
 fn read_capacity<D: Disk>(disk: &mut D, block: &mut Block) -> Result<Option<u64>, DiskFault>
-    ensures read { IfOk result (λ read. Told (D.told disk.old) (λ s. Holds block.old s.content → IsBirthOf s.content read)) }
+    ensures read { IfOk result (λ read. Told (D.told disk.old) (λ s. Holds block.old s.content
+        → IsBirthOf s.content read)) }
     ensures allowed { IfOk result (λ read. IfSome read IsCapacity) }
-    ensures holds { Told (D.told disk.old) (λ s. Holds block.old s.content → Holds block.new s.content) }
+    ensures holds { Told (D.told disk.old) (λ s. Holds block.old s.content
+        → Holds block.new s.content) }
     ensures same { D.told disk.new ≡ D.told disk.old }
     ensures later { D.faults disk.old ≤ D.faults disk.new }
     ensures cause { OnErr result (Rose (D.faults disk.old) (D.faults disk.new)) }
@@ -74,10 +77,13 @@ fn walk<D: Disk>(
     capacity: u64,
 ) -> Result<u64, OpenFault>
     requires { IsCapacity capacity }
-    ensures walked { Told (D.told disk.old) (λ s. Holds block.old s.content → size ≡ length s.content → HasBirth capacity s.content → Walked capacity result s.content) }
+    ensures walked { Told (D.told disk.old) (λ s. Holds block.old s.content
+        → size ≡ length s.content → HasBirth capacity s.content
+        → Walked capacity result s.content) }
     ensures gate { IfOk result (λ gate. gate < capacity) }
     ensures only { result ≡ Err OpenFault.Memory → ⊥ }
-    ensures holds { Told (D.told disk.old) (λ s. Holds block.old s.content → Holds block.new s.content) }
+    ensures holds { Told (D.told disk.old) (λ s. Holds block.old s.content
+        → Holds block.new s.content) }
     ensures same { D.told disk.new ≡ D.told disk.old }
     ensures later { D.faults disk.old ≤ D.faults disk.new }
     ensures cause { result ≡ Err OpenFault.Disk → Rose (D.faults disk.old) (D.faults disk.new) }
@@ -108,9 +114,12 @@ fn read_head<D: Disk>(
 ) -> Result<Step, DiskFault>
     requires place { place < capacity }
     requires capacity { capacity ≤ 268435456 }
-    ensures head { IfOk result (λ step. Told (D.told disk.old) (λ s. Holds block.old s.content → IsHead step (capacity - place) (drop place s.content))) }
-    ensures fits { IfOk result (λ step. (size : ℕ) → step ≡ Step.Whole size → place + size + 6 ≤ capacity) }
-    ensures holds { Told (D.told disk.old) (λ s. Holds block.old s.content → Holds block.new s.content) }
+    ensures head { IfOk result (λ step. Told (D.told disk.old) (λ s. Holds block.old s.content
+        → IsHead step (capacity - place) (drop place s.content))) }
+    ensures fits { IfOk result (λ step. (size : ℕ) → step ≡ Step.Whole size
+        → place + size + 6 ≤ capacity) }
+    ensures holds { Told (D.told disk.old) (λ s. Holds block.old s.content
+        → Holds block.new s.content) }
     ensures same { D.told disk.new ≡ D.told disk.old }
     ensures later { D.faults disk.old ≤ D.faults disk.new }
     ensures cause { OnErr result (Rose (D.faults disk.old) (D.faults disk.new)) }
@@ -161,10 +170,13 @@ pub fn read_frame<D: Disk>(
 ) -> Result<Step, OpenFault>
     requires place { place < capacity }
     requires capacity { capacity ≤ 268435456 }
-    ensures frame { IfOk result (λ step. Told (D.told disk.old) (λ s. Holds block.old s.content → IsFrame step (capacity - place) (drop place s.content) buf.new.items)) }
-    ensures fits { IfOk result (λ step. (size : ℕ) → step ≡ Step.Whole size → (place + size + 6 ≤ capacity) × (size ≡ length buf.new.items)) }
+    ensures frame { IfOk result (λ step. Told (D.told disk.old) (λ s. Holds block.old s.content
+        → IsFrame step (capacity - place) (drop place s.content) buf.new.items)) }
+    ensures fits { IfOk result (λ step. (size : ℕ) → step ≡ Step.Whole size
+        → (place + size + 6 ≤ capacity) × (size ≡ length buf.new.items)) }
     ensures only { IfErr result IsReadFault }
-    ensures holds { Told (D.told disk.old) (λ s. Holds block.old s.content → Holds block.new s.content) }
+    ensures holds { Told (D.told disk.old) (λ s. Holds block.old s.content
+        → Holds block.new s.content) }
     ensures same { D.told disk.new ≡ D.told disk.old }
     ensures later { D.faults disk.old ≤ D.faults disk.new }
     ensures cause { result ≡ Err OpenFault.Disk → Rose (D.faults disk.old) (D.faults disk.new) }
@@ -192,9 +204,11 @@ fn read_payload<D: Disk>(
 ) -> Result<bool, OpenFault>
     requires { place + len < 2 ^ 32 }
     ensures len { result ≡ Ok true → len ≡ length buf.new.items }
-    ensures payload { IfOk result (λ whole. Told (D.told disk.old) (λ s. Holds block.old s.content → IsPayload whole len (drop place s.content) buf.new.items)) }
+    ensures payload { IfOk result (λ whole. Told (D.told disk.old) (λ s. Holds block.old s.content
+        → IsPayload whole len (drop place s.content) buf.new.items)) }
     ensures only { IfErr result IsReadFault }
-    ensures holds { Told (D.told disk.old) (λ s. Holds block.old s.content → Holds block.new s.content) }
+    ensures holds { Told (D.told disk.old) (λ s. Holds block.old s.content
+        → Holds block.new s.content) }
     ensures same { D.told disk.new ≡ D.told disk.old }
     ensures later { D.faults disk.old ≤ D.faults disk.new }
     ensures cause { result ≡ Err OpenFault.Disk → Rose (D.faults disk.old) (D.faults disk.new) }

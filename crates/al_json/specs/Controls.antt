@@ -8,16 +8,12 @@ use Rattle.al_notify.specs.declared.rule.Mode.{Mode}
 use Rattle.al_notify.specs.declared.rule.Mode.TheVariants.{AllStateChanges, RaiseAndClear, SeverityLevel}
 use Rattle.serde_json.specs.Data.{Data, number, string, unsigned}
 use Rattle.al_json.specs.Shelves.{shelving_tree}
+use Rattle.al_notify.specs.Modes.{mode_name}
 
 -- how many status entries an alarm keeps
 abbrev pub max_tree : Option ℕ → Data
 max_tree None = string (codes "infinite")
 max_tree (Some most) = number (unsigned most)
-
-abbrev pub mode_name : Mode → List ℕ
-mode_name AllStateChanges = codes "all-state-changes"
-mode_name RaiseAndClear = codes "raise-and-clear"
-mode_name SeverityLevel = codes "severity-level"
 
 -- the level of the rule, which is told in the mode that goes by it
 abbrev pub level_of : Mode → Severity → Option Data

@@ -11,7 +11,8 @@ use Rattle.al_uri.specs.declared.target.Target.{Target}
 use Rattle.al_uri.specs.declared.target.Target.TheVariants as targets
 use Rattle.serde_json.specs.Data.{Data, number, string, unsigned}
 use Rattle.al_json.specs.Alarms.{alarm_list_tree, alarm_tree, shelved_alarms_tree}
-use Rattle.al_json.specs.Controls.{control_tree, level_of, max_tree, mode_name}
+use Rattle.al_json.specs.Controls.{control_tree, level_of, max_tree}
+use Rattle.al_notify.specs.Modes.{mode_name}
 use Rattle.al_json.specs.Histories.{moment}
 use Rattle.al_json.specs.Inventories.{alarm_inventory_tree, inventory_tree}
 use Rattle.al_json.specs.Notes.{log_tree}

@@ -25,7 +25,8 @@ pub(crate) fn alarm_object<'a>(
     alarm: &'a Alarm,
 ) -> Object<[Field<Inner<'a>>; 13]>
     requires { IsMarked tables.now.state alarm.now.state }
-    ensures { object_of (fields_by inner_data result.table) ≡ alarm_tree tables.now.state side alarm.now.state }
+    ensures { object_of (fields_by inner_data result.table)
+        ≡ alarm_tree tables.now.state side alarm.now.state }
 {
     let table = alarm_table(tables, side, alarm);
     Object { table }
@@ -82,7 +83,8 @@ impl<'a> Listed<'a> {
     /// The alarm at this place.
     #[tactic(auto, using(crate::proofs::Marks::at_marked))]
     fn found(&self, i: usize) -> Option<&'a Alarm>
-        ensures alarm { option_map (λ v. v.state) (option_copied result) ≡ slice_get (listed self.now.0.now.state) i }
+        ensures alarm { option_map (λ v. v.state) (option_copied result)
+            ≡ slice_get (listed self.now.0.now.state) i }
         ensures marked { IfSome result (λ a. IsMarked self.now.0.now.state a.now.state) }
     {
         self.0.state_is_valid();
@@ -131,7 +133,8 @@ impl<'a> Shelved<'a> {
     /// The alarm at this place.
     #[tactic(auto, using(crate::proofs::Marks::at_marked))]
     fn found(&self, i: usize) -> Option<&'a Alarm>
-        ensures alarm { option_map (λ v. v.state) (option_copied result) ≡ slice_get (shelved self.now.0.now.state) i }
+        ensures alarm { option_map (λ v. v.state) (option_copied result)
+            ≡ slice_get (shelved self.now.0.now.state) i }
         ensures marked { IfSome result (λ a. IsMarked self.now.0.now.state a.now.state) }
     {
         self.0.state_is_valid();

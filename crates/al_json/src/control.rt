@@ -2,7 +2,8 @@
 
 ghost use Rattle.al_fields.specs.Leaves.{leaf_data};
 ghost use Rattle.al_fields.specs.Members.{fields_by, object_of};
-ghost use Rattle.al_json.specs.Controls.{control_tree, level_of, max_tree, mode_name as name_of};
+ghost use Rattle.al_json.specs.Controls.{control_tree, level_of, max_tree};
+ghost use Rattle.al_notify.specs.Modes.{mode_name as name_of};
 ghost use Rattle.al_json.specs.Pieces.{outer_data, setting_data};
 ghost use Rattle.al_json.specs.Shelves.{shelving_tree};
 ghost use Rattle.std.specs.Prelude.{◌≡◌, Some};

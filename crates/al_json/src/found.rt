@@ -31,7 +31,8 @@ impl Copy for FoundAlarm<'_> {}
 
 impl<'a> FoundAlarm<'a> {
     fn at(&self, i: usize) -> Option<&'a Alarm>
-        ensures alarm { option_copied result ≡ slice_get (option_to_list (option_copied self.now.alarm)) i }
+        ensures alarm { option_copied result
+            ≡ slice_get (option_to_list (option_copied self.now.alarm)) i }
         ensures marked { IfSome result (λ a. IsMarked self.now.tables.now.state a.now.state) }
     {
         if i == 0 { self.alarm } else { None }
@@ -43,7 +44,8 @@ impl<'a> Series for FoundAlarm<'a> {
     ghost use Rattle.std.specs.Option.{option_copied, option_to_list};
     ghost use Rattle.std.specs.Prelude.{map};
 
-    ghost trees = { λ s. map (λ view. alarm_tree s.tables.now.state s.side view.state) (option_to_list (option_copied s.alarm)) };
+    ghost trees = { λ s. map (λ view.
+        alarm_tree s.tables.now.state s.side view.state) (option_to_list (option_copied s.alarm)) };
 
     fn count(&self) -> usize {
         usize::from(self.alarm.is_some())

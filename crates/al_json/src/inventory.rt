@@ -182,7 +182,8 @@ impl<'a> Series for Severities<'a> {
 
 /// The name of the row's severity at this place, from the least to the gravest.
 fn name_at(row: &Row, i: usize) -> Option<&str>
-    ensures { option_copied result ≡ option_map severity_name (slice_get (severities_in row.now.severities) i) }
+    ensures { option_copied result
+        ≡ option_map severity_name (slice_get (severities_in row.now.severities) i) }
 {
     match severity_at(row.severities, i) {
         Some(severity) => Some(severity.name()),

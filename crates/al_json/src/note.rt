@@ -20,7 +20,8 @@ pub(crate) fn notification_object<'a>(
     status: Status,
     text: &'a Text,
 ) -> Object<[Field<Leaf<'a>>; 6]>
-    ensures { object_of (fields_by leaf_data result.table) ≡ notification_tree time key.now status text.now }
+    ensures { object_of (fields_by leaf_data result.table)
+        ≡ notification_tree time key.now status text.now }
 {
     object! {
         "alarm-text": Leaf::Text(text),
@@ -41,7 +42,8 @@ pub(crate) fn action_object<'a>(
     state: OperatorState,
     text: Option<&'a Text>,
 ) -> Object<[Field<Leaf<'a>>; 7]>
-    ensures { object_of (fields_by leaf_data result.table) ≡ action_tree time key.now operator.now state (option_copied text.entry) }
+    ensures { object_of (fields_by leaf_data result.table)
+        ≡ action_tree time key.now operator.now state (option_copied text.entry) }
 {
     object! {
         "alarm-type-id": Leaf::Text(key.type_id.text()),

@@ -5,7 +5,8 @@ ghost use Rattle.std.specs.Prelude.{◌≡◌, length};
 
 use crate::note::note_object;
 use al_fields::{Series, Shown};
-use al_notify::{MAX_PAGE, NoteLog};
+use al_base::limits::MOST_PAGE_NOTES;
+use al_notify::NoteLog;
 use serde_json::Value;
 use std::alloc::{AllocError, Global};
 
@@ -56,5 +57,5 @@ fn page_len(log: &NoteLog, start: u32) -> usize
     let oldest = u64::from(log.oldest());
     let kept = u64::from(log.sent()) + 1 - oldest;
     let skipped = u64::from(start).saturating_sub(oldest);
-    (kept.saturating_sub(skipped) as usize).min(MAX_PAGE)
+    (kept.saturating_sub(skipped) as usize).min(MOST_PAGE_NOTES)
 }

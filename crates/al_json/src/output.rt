@@ -11,7 +11,9 @@ use al_uri::Target;
 /// Writes what the action of the target answers with this count, and nothing where it answers none. It takes no memory.
 pub fn append_output(target: &Target, count: u32, out: &mut Vec<u8>)
     requires { vec_len out.old + 64 ≤ vec_capacity out.old }
-    ensures items { out.new.items ≡ out.old.items ++ text_of (option_map (λ name. output_of name count) (counted_by target.now)) }
+    ensures items { out.new.items
+        ≡ out.old.items ++ text_of
+        (option_map (λ name. output_of name count) (counted_by target.now)) }
     ensures room { vec_capacity out.old ≤ vec_capacity out.new }
 {
     match target {
@@ -24,7 +26,8 @@ pub fn append_output(target: &Target, count: u32, out: &mut Vec<u8>)
 #[tactic(auto, using(crate::proofs::OutputTexts::purged_room))]
 fn put_purged(out: &mut Vec<u8>, count: u32)
     requires { vec_len out.old + 64 ≤ vec_capacity out.old }
-    ensures items { out.new.items ≡ out.old.items ++ compact_text (output_of (codes "purged-alarms") count) }
+    ensures items { out.new.items
+        ≡ out.old.items ++ compact_text (output_of (codes "purged-alarms") count) }
     ensures room { vec_capacity out.old ≤ vec_capacity out.new }
 {
     let counted = object! { "purged-alarms": u64::from(count) };
@@ -34,7 +37,8 @@ fn put_purged(out: &mut Vec<u8>, count: u32)
 #[tactic(auto, using(crate::proofs::OutputTexts::compressed_room))]
 fn put_compressed(out: &mut Vec<u8>, count: u32)
     requires { vec_len out.old + 64 ≤ vec_capacity out.old }
-    ensures items { out.new.items ≡ out.old.items ++ compact_text (output_of (codes "compressed-alarms") count) }
+    ensures items { out.new.items
+        ≡ out.old.items ++ compact_text (output_of (codes "compressed-alarms") count) }
     ensures room { vec_capacity out.old ≤ vec_capacity out.new }
 {
     let counted = object! { "compressed-alarms": u64::from(count) };

@@ -17,7 +17,8 @@ use std::alloc::{AllocError, Global};
 /// RFC 8632, container `summary`.
 #[tactic(auto, unfolding(crate::specs::Summaries::summary_tree))]
 pub(crate) fn summary_object(summary: &Summary) -> Object<[Field<Inner<'_>>; 2]>
-    ensures { object_of (fields_by inner_data result.table) ≡ summary_tree summary.now.rows summary.now.shelves_active }
+    ensures { object_of (fields_by inner_data result.table)
+        ≡ summary_tree summary.now.rows summary.now.shelves_active }
 {
     object! {
         "alarm-summary": Inner::Counts(summary),

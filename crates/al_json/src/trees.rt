@@ -44,7 +44,8 @@ pub fn tree(alloc: Global, target: &Target, tables: &Tables) -> Result<Option<Va
 /// How long the compact text of that tree is, or the greatest number where it is longer. It takes no memory.
 #[tactic(auto, unfolding(crate::specs::Trees::tree_of))]
 pub fn text_len(target: &Target, tables: &Tables) -> Option<u64>
-    ensures { result ≡ option_map (λ tree. saturated (length (compact_text tree))) (tree_of target.now tables.now.state) }
+    ensures { result ≡ option_map (λ tree.
+        saturated (length (compact_text tree))) (tree_of target.now tables.now.state) }
 {
     let content = Held(content_of(target, tables));
     whole_len(name_of(target), &content)
@@ -53,7 +54,8 @@ pub fn text_len(target: &Target, tables: &Tables) -> Option<u64>
 /// Writes that text behind what is there, and nothing where there is no tree. It takes no memory.
 #[tactic(auto, unfolding(crate::specs::Trees::tree_of))]
 pub fn append_text(target: &Target, tables: &Tables, out: &mut Vec<u8>)
-    requires { vec_len out.old + length (text_of (tree_of target.now tables.now.state)) ≤ vec_capacity out.old }
+    requires { vec_len out.old + length (text_of (tree_of target.now tables.now.state))
+        ≤ vec_capacity out.old }
     ensures items { out.new.items ≡ out.old.items ++ text_of (tree_of target.now tables.now.state) }
     ensures room { vec_capacity out.old ≤ vec_capacity out.new }
 {
@@ -138,7 +140,8 @@ fn inventory(tables: &Tables) -> Section<'_>
 
 /// The rows of the inventory, none before an installation.
 pub(crate) fn rows(tables: &Tables) -> Section<'_>
-    ensures { section_data result ≡ Some (alarm_inventory_tree (inventory_of tables.now.state).rows) }
+    ensures { section_data result
+        ≡ Some (alarm_inventory_tree (inventory_of tables.now.state).rows) }
 {
     match tables.inventory() {
         Some(inventory) => Section::AlarmInventory(inventory.rows()),
@@ -148,13 +151,15 @@ pub(crate) fn rows(tables: &Tables) -> Section<'_>
 
 /// How many alarms there are, by severity and by what became of them.
 pub(crate) fn summary(tables: &Tables) -> Section<'_>
-    ensures { section_data result ≡ Some (summary_tree (summary_of tables.now.state) (has_shelved tables.now.state)) }
+    ensures { section_data result
+        ≡ Some (summary_tree (summary_of tables.now.state) (has_shelved tables.now.state)) }
 {
     Section::Summary(tables.summary())
 }
 
 fn one_shelf<'a>(tables: &'a Tables, name: &Text) -> Section<'a>
-    ensures { section_data result ≡ list_of (map shelf_tree (option_to_list (shelf_of name.now tables.now.state.shelves))) }
+    ensures { section_data result
+        ≡ list_of (map shelf_tree (option_to_list (shelf_of name.now tables.now.state.shelves))) }
 {
     Section::OneShelf(Items(FoundShelf(find_shelf(tables.shelves(), name))))
 }
@@ -183,7 +188,8 @@ fn shelf_at(shelves: &Shelves, place: usize) -> Option<&Shelf>
 #[tactic(auto, using(crate::proofs::Marks::found_marked))]
 fn one_listed<'a>(tables: &'a Tables, key: &AlarmKey) -> Section<'a>
     ensures { section_data result
-        ≡ list_of (map (alarm_tree tables.now.state Side.List) (option_to_list (alarm_of key.now (listed tables.now.state)))) }
+        ≡ list_of (map (alarm_tree tables.now.state Side.List)
+            (option_to_list (alarm_of key.now (listed tables.now.state)))) }
 {
     tables.state_is_valid();
     Section::OneAlarm(Items(FoundAlarm {
@@ -197,7 +203,8 @@ fn one_listed<'a>(tables: &'a Tables, key: &AlarmKey) -> Section<'a>
 #[tactic(auto, using(crate::proofs::Marks::found_marked))]
 fn one_shelved<'a>(tables: &'a Tables, key: &AlarmKey) -> Section<'a>
     ensures { section_data result
-        ≡ list_of (map (alarm_tree tables.now.state Side.Shelf) (option_to_list (alarm_of key.now (shelved tables.now.state)))) }
+        ≡ list_of (map (alarm_tree tables.now.state Side.Shelf)
+            (option_to_list (alarm_of key.now (shelved tables.now.state)))) }
 {
     tables.state_is_valid();
     Section::OneAlarm(Items(FoundAlarm {

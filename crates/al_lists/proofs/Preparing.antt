@@ -25,7 +25,8 @@ use Rattle.al_model.specs.Alarms.{alarm_of, new_alarm, says_more, status_of, wit
 use Rattle.al_model.specs.Decision.{changes, missing, unless}
 use Rattle.al_model.specs.Events.{fate, moves, newcomer, set_by, touches}
 use Rattle.al_model.specs.History.{Fits, asked_shelf}
-use Rattle.al_model.specs.Limits.{IsEventWithin, IsOperators}
+use Rattle.al_model.specs.Limits.{IsEventWithin}
+use Rattle.al_base.specs.Operators.{IsOperators}
 use Rattle.al_model.specs.State.{AlarmState, State, inventory_of, is_listed, is_shelved, shelf_name}
 use Rattle.al_model.specs.Step.{built, is_news, note_of, step, touches_side}
 use Rattle.al_model.specs.Validity.{IsMarked, IsValid}

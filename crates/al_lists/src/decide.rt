@@ -14,16 +14,14 @@ ghost use Rattle.al_lists.specs.Verdicts.{judged, room_for, row_refusal, verdict
 
 use crate::verdict::{Verdict, judge, room};
 use al_alarms::{Alarm, Contents, if_at};
+use al_base::limits::{MOST_ALARMS, MOST_SHELVES};
 use al_base::{Severity, Stamp, Status, Text};
 use al_ids::AlarmKey;
 use al_model::{Decision, Event, Refusal, Reply, Request, Side};
 use al_notify::{Mode, NotifyRule};
 use al_select::{CompressFilter, PurgeFilter};
-use al_shelf::{MAX_SHELVES, Shelf, Shelves, Spot};
+use al_shelf::{Shelf, Shelves, Spot};
 use al_types::Row;
-
-/// The most alarms that there are.
-const MAX_ALARMS: usize = 10_000;
 
 /// What is to become of a request at a reading of the clock. It takes no memory: the event of a change has what the request has.
 pub(crate) fn decide(contents: &Contents, request: Request, now: Stamp) -> Decision
@@ -78,7 +76,8 @@ pub(crate) fn judge_report(
     text: &Text,
 ) -> Verdict
     requires { IsValid contents.now.state }
-    ensures { (time : ℕ) → result ≡ verdict_at contents.now.state time (Request.Report key.now status text.now) }
+    ensures { (time : ℕ) → result
+        ≡ verdict_at contents.now.state time (Request.Report key.now status text.now) }
 {
     let stands = contents.find(key);
     let news = is_news(stands, status, text);
@@ -89,7 +88,8 @@ pub(crate) fn judge_report(
 
 /// Whether a report says something new of the alarm of its key, or makes one.
 fn is_news(stands: Option<&Alarm>, status: Status, text: &Text) -> bool
-    ensures { result ≡ is_news (option_map (λ v. v.state) (option_copied stands.entry)) status text.now }
+    ensures { result ≡ is_news (option_map (λ v. v.state) (option_copied stands.entry)) status
+        text.now }
 {
     match stands {
         Some(alarm) => alarm.is_changed_by(status, text),
@@ -108,14 +108,16 @@ fn is_active(status: Status) -> bool
 
 /// Whether there is room for the alarm that a report makes, if it makes one.
 fn alarms_fit(contents: &Contents, is_new: bool, news: bool) -> bool
-    ensures { result ≡ (not (is_new && news) || nat_lt (length contents.now.state.alarms) most_alarms) }
+    ensures { result ≡ (not (is_new && news)
+        || nat_lt (length contents.now.state.alarms) most_alarms) }
 {
-    !(is_new && news) || contents.alarms().len() < MAX_ALARMS
+    !(is_new && news) || contents.alarms().len() < MOST_ALARMS
 }
 
 /// What the inventory has against a report.
 fn undeclared(contents: &Contents, key: &AlarmKey, status: Status) -> Option<Refusal>
-    ensures { (text : List ℕ) → result ≡ undeclared contents.now.state (Request.Report key.now status text) }
+    ensures { (text : List ℕ)
+        → result ≡ undeclared contents.now.state (Request.Report key.now status text) }
 {
     match contents.inventory() {
         Some(inventory) => row_refusal(inventory.row(&key.type_id, &key.qualifier), status),
@@ -156,7 +158,8 @@ fn severity_refusal(row: &Row, severity: Severity) -> Option<Refusal>
 pub(crate) fn judge_operate(contents: &Contents, key: &AlarmKey) -> Verdict
     requires { IsValid contents.now.state }
     ensures { (time : ℕ) (state : OperatorState) (operator : List ℕ) (text : Option (List ℕ))
-        → result ≡ verdict_at contents.now.state time (Request.Operate key.now state operator text) }
+        → result ≡ verdict_at contents.now.state time
+            (Request.Operate key.now state operator text) }
 {
     match if_at(contents.find(key), Side::List) {
         Some(_) => judge(None, true, room(contents, true, true), Reply::Done),
@@ -195,7 +198,8 @@ pub(crate) fn judge_level(contents: &Contents, level: Severity) -> Verdict
 }
 
 fn judge_rule(contents: &Contents, rule: NotifyRule) -> Verdict
-    ensures { result ≡ judged None (not (same_rule contents.now.state.rule rule)) (room_for true true contents.now.state.time) Reply.Done }
+    ensures { result ≡ judged None (not (same_rule contents.now.state.rule rule))
+        (room_for true true contents.now.state.time) Reply.Done }
 {
     let changing = *contents.rule() != rule;
     judge(None, changing, room(contents, true, true), Reply::Done)
@@ -205,7 +209,8 @@ fn judge_rule(contents: &Contents, rule: NotifyRule) -> Verdict
 
 fn judge_creation(contents: &Contents, shelf: &Shelf, spot: &Spot) -> Verdict
     requires { IsValid contents.now.state }
-    ensures { (time : ℕ) → result ≡ verdict_at contents.now.state time (Request.CreateShelf shelf.now spot.now) }
+    ensures { (time : ℕ) → result
+        ≡ verdict_at contents.now.state time (Request.CreateShelf shelf.now spot.now) }
 {
     let shelves = contents.shelves();
     match shelves.place_for(spot, &shelf.name) {
@@ -219,7 +224,8 @@ fn judge_creation(contents: &Contents, shelf: &Shelf, spot: &Spot) -> Verdict
 
 fn judge_put(contents: &Contents, shelf: &Shelf, spot: &Spot) -> Verdict
     requires { IsValid contents.now.state }
-    ensures { (time : ℕ) → result ≡ verdict_at contents.now.state time (Request.PutShelf shelf.now spot.now) }
+    ensures { (time : ℕ) → result
+        ≡ verdict_at contents.now.state time (Request.PutShelf shelf.now spot.now) }
 {
     let shelves = contents.shelves();
     match shelves.place_for(spot, &shelf.name) {
@@ -256,9 +262,10 @@ pub(crate) fn judge_place(contents: &Contents, shelf: &Shelf, place: usize, repl
 
 /// Whether a shelf of the name goes, or there is room for one more.
 fn shelf_fits(shelves: &Shelves, name: &Text) -> bool
-    ensures { result ≡ (is_some (place_of name.now shelves.now.shelves) || nat_lt (length shelves.now.shelves) most_shelves) }
+    ensures { result ≡ (is_some (place_of name.now shelves.now.shelves)
+        || nat_lt (length shelves.now.shelves) most_shelves) }
 {
-    shelves.place_of(name).is_some() || shelves.len() < MAX_SHELVES
+    shelves.place_of(name).is_some() || shelves.len() < MOST_SHELVES
 }
 
 /// Whether this very shelf stands at the position.
@@ -273,7 +280,8 @@ fn stands_at(shelves: &Shelves, shelf: &Shelf, place: usize) -> bool
 
 pub(crate) fn judge_drop(contents: &Contents, name: &Text) -> Verdict
     requires { IsValid contents.now.state }
-    ensures { (time : ℕ) → result ≡ verdict_at contents.now.state time (Request.DropShelf name.now) }
+    ensures { (time : ℕ) → result
+        ≡ verdict_at contents.now.state time (Request.DropShelf name.now) }
 {
     match contents.shelves().place_of(name) {
         Some(_) => judge(None, true, room(contents, true, true), Reply::Done),
@@ -306,7 +314,8 @@ fn count_going(alarms: &[Alarm], side: Side, chosen: &PurgeFilter, time: u64) ->
 
 pub(crate) fn judge_compression(contents: &Contents, side: Side, chosen: &CompressFilter) -> Verdict
     requires { IsValid contents.now.state }
-    ensures { (time : ℕ) → result ≡ verdict_at contents.now.state time (Request.Compress side chosen.now) }
+    ensures { (time : ℕ) → result
+        ≡ verdict_at contents.now.state time (Request.Compress side chosen.now) }
 {
     judge_count(contents, count_losing(contents.alarms(), side, chosen))
 }
@@ -323,7 +332,8 @@ fn count_losing(alarms: &[Alarm], side: Side, chosen: &CompressFilter) -> usize
 /// The verdict on a change of so many alarms.
 fn judge_count(contents: &Contents, count: usize) -> Verdict
     requires { count ≤ most_alarms }
-    ensures { result ≡ judged None (nat_lt 0 count) (room_for true true contents.now.state.time) (Reply.Count count) }
+    ensures { result ≡ judged None (nat_lt 0 count) (room_for true true contents.now.state.time)
+        (Reply.Count count) }
 {
     judge(
         None,
@@ -337,7 +347,8 @@ fn judge_count(contents: &Contents, count: usize) -> Verdict
 
 pub(crate) fn judge_installation(contents: &Contents) -> Verdict
     requires { IsValid contents.now.state }
-    ensures { (time : ℕ) (inventory : InventoryView) → result ≡ verdict_at contents.now.state time (Request.Install inventory) }
+    ensures { (time : ℕ) (inventory : InventoryView)
+        → result ≡ verdict_at contents.now.state time (Request.Install inventory) }
 {
     match contents.inventory() {
         None => judge(None, true, room(contents, true, true), Reply::Done),

@@ -85,7 +85,8 @@ fn is_same_level(a: Severity, b: Severity) -> bool
 /// Whether a request for the shelf at the position would be carried out.
 fn is_place_asked(contents: &Contents, shelf: &Shelf, place: usize) -> bool
     requires { IsValid contents.now.state }
-    ensures { (time : ℕ) → IsTrue result ↔ IsAsked contents.now.state time (Event.PutShelf shelf.now place) }
+    ensures { (time : ℕ) → IsTrue result
+        ↔ IsAsked contents.now.state time (Event.PutShelf shelf.now place) }
 {
     if place > others(contents.shelves(), &shelf.name) {
         return false;

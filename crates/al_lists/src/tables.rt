@@ -63,28 +63,32 @@ impl Tables {
 
     /// The alarm of the key, None exactly where the list has none of it.
     pub fn alarm(&self, key: &AlarmKey) -> Option<&Alarm>
-        ensures { option_map (λ v. v.state) (option_copied result) ≡ alarm_of key.now (listed self.now.state) }
+        ensures { option_map (λ v. v.state) (option_copied result)
+            ≡ alarm_of key.now (listed self.now.state) }
     {
         if_at(self.contents.find(key), Side::List)
     }
 
     /// The alarm of the key, None exactly where no shelf has one of it.
     pub fn shelved(&self, key: &AlarmKey) -> Option<&Alarm>
-        ensures { option_map (λ v. v.state) (option_copied result) ≡ alarm_of key.now (shelved self.now.state) }
+        ensures { option_map (λ v. v.state) (option_copied result)
+            ≡ alarm_of key.now (shelved self.now.state) }
     {
         if_at(self.contents.find(key), Side::Shelf)
     }
 
     /// The alarm at this place of the list, in the order of keys.
     pub fn alarm_at(&self, i: usize) -> Option<&Alarm>
-        ensures { option_map (λ v. v.state) (option_copied result) ≡ slice_get (listed self.now.state) i }
+        ensures { option_map (λ v. v.state) (option_copied result)
+            ≡ slice_get (listed self.now.state) i }
     {
         self.contents.listed_at(i)
     }
 
     /// The alarm at this place among those on shelves, in the order of keys.
     pub fn shelved_at(&self, i: usize) -> Option<&Alarm>
-        ensures { option_map (λ v. v.state) (option_copied result) ≡ slice_get (shelved self.now.state) i }
+        ensures { option_map (λ v. v.state) (option_copied result)
+            ≡ slice_get (shelved self.now.state) i }
     {
         self.contents.shelved_at(i)
     }

@@ -22,7 +22,8 @@ use Rattle.al_shelf.proofs.Puts.{others_sound, put_sound}
 use Rattle.al_shelf.specs.Places.{AreShelves, without}
 use Rattle.al_shelf.specs.declared.shelf.Shelf.{Shelf}
 use Rattle.al_shelf.specs.declared.spot.Spot.TheVariants.{After}
-use Rattle.al_model.specs.Alarms.{alarm_of, bounded, is_of, move_entry, new_alarm, newest, reported, with_newcomer, with_operator}
+use Rattle.al_model.specs.Alarms.{alarm_of, bounded, is_of, move_entry, new_alarm, reported, with_newcomer, with_operator}
+use Rattle.al_record.specs.Histories.{newest}
 use Rattle.al_model.specs.Decision.{full, unless}
 use Rattle.al_model.specs.Events.{after_event, fate, newcomer, set_by}
 use Rattle.al_model.specs.History.{Fits, asked_for, asked_shelf}

@@ -15,7 +15,8 @@ use Rattle.al_model.specs.Alarms.{alarm_of, bounded, is_of, move_entry, new_alar
 use Rattle.al_model.specs.Decision.{missing, unless}
 use Rattle.al_model.specs.Events.{after_event, fate, newcomer}
 use Rattle.al_model.specs.History.{Fits, asked_for}
-use Rattle.al_model.specs.Limits.{IsEventWithin, IsOperators}
+use Rattle.al_model.specs.Limits.{IsEventWithin}
+use Rattle.al_base.specs.Operators.{IsOperators}
 use Rattle.al_model.specs.State.{AlarmState, State, is_listed, shelf_name}
 use Rattle.al_model.specs.Step.{moved, step}
 use Rattle.al_model.specs.Validity.{IsMarked, shelved_by, shelving}

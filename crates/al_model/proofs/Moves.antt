@@ -12,7 +12,7 @@ use Rattle.al_base.specs.declared.text.Text.{Text}
 use Rattle.al_ids.proofs.Keyed.{exact_key}
 use Rattle.al_ids.specs.Keys.{key_cmp}
 use Rattle.al_ids.specs.declared.key.AlarmKey.{AlarmKey}
-use Rattle.al_select.specs.Filters.{same_text}
+use Rattle.al_base.specs.Texts.{same_text}
 use Rattle.al_model.specs.Alarms.{bounded, is_of, move_entry, own_entry, reported, with_operator}
 use Rattle.al_model.specs.Events.{fate}
 use Rattle.al_model.specs.State.{AlarmState, State, shelf_name}

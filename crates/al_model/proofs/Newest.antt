@@ -6,7 +6,8 @@ use Rattle.std.specs.Option.{IfSome, is_some}
 use Rattle.al_base.specs.declared.severity.Status.{Status}
 use Rattle.al_base.specs.declared.severity.Status.TheVariants.{Cleared, Active}
 use Rattle.al_base.specs.declared.text.Text.{Text}
-use Rattle.al_model.specs.Alarms.{alarm_of, bounded, is_of, move_entry, new_alarm, newest, reported, status_of, with_operator}
+use Rattle.al_model.specs.Alarms.{alarm_of, bounded, is_of, move_entry, new_alarm, reported, status_of, with_operator}
+use Rattle.al_record.specs.Histories.{newest}
 use Rattle.al_model.specs.Events.{after_event, fate, newcomer, set_by}
 use Rattle.al_model.specs.History.{Fits}
 use Rattle.al_model.specs.Limits.{IsEventWithin}

@@ -12,7 +12,8 @@ use Rattle.al_base.specs.declared.severity.Status.TheVariants.{Cleared, Active}
 use Rattle.al_base.specs.declared.text.Text.{Text}
 use Rattle.al_ids.specs.Keys.{key_cmp}
 use Rattle.al_ids.specs.declared.key.AlarmKey.{AlarmKey}
-use Rattle.al_select.specs.Filters.{Facts, compress_takes, purge_takes, same_text}
+use Rattle.al_select.specs.Filters.{Facts, compress_takes, purge_takes}
+use Rattle.al_base.specs.Texts.{same_text}
 use Rattle.al_select.specs.declared.purge.PurgeFilter.{PurgeFilter}
 use Rattle.al_shelf.specs.Places.{is_named, without}
 use Rattle.al_shelf.specs.declared.shelf.Shelf.{Shelf}

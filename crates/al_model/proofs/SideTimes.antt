@@ -12,7 +12,7 @@ use Rattle.al_base.specs.declared.operator.OperatorState.TheVariants.{Shelved}
 use Rattle.al_ids.proofs.Keyed.{equal_key}
 use Rattle.al_ids.specs.Keys.{key_cmp}
 use Rattle.al_ids.specs.declared.key.AlarmKey.{AlarmKey}
-use Rattle.al_select.specs.Filters.{same_text}
+use Rattle.al_base.specs.Texts.{same_text}
 use Rattle.al_model.specs.Alarms.{alarm_of, is_of, move_entry, new_alarm, own_entry, says_more, with_newcomer}
 use Rattle.al_model.specs.Events.{after_event, fate, newcomer, set_by, touches}
 use Rattle.al_model.specs.State.{AlarmState, State, alarms_on, is_on, shelf_name}

@@ -8,8 +8,9 @@ use Rattle.al_base.specs.declared.severity.Status.TheVariants.{Cleared, Active}
 use Rattle.al_base.specs.declared.text.Text.{Text}
 use Rattle.al_base.specs.declared.operator.OperatorState.TheVariants.{Shelved, UnShelved}
 use Rattle.al_ids.specs.declared.key.AlarmKey.{AlarmKey}
-use Rattle.al_select.specs.Filters.{same_text}
-use Rattle.al_model.specs.Alarms.{alarm_of, bounded, is_of, move_entry, new_alarm, newest, own_entry, reported, with_operator, with_status}
+use Rattle.al_base.specs.Texts.{same_text}
+use Rattle.al_model.specs.Alarms.{alarm_of, bounded, is_of, move_entry, new_alarm, own_entry, reported, with_operator, with_status}
+use Rattle.al_record.specs.Histories.{newest}
 use Rattle.al_model.specs.Events.{after_event, fate, newcomer, set_by}
 use Rattle.al_model.specs.History.{Fits}
 use Rattle.al_model.specs.State.{AlarmState, State, shelf_name}

@@ -8,7 +8,8 @@ use Rattle.al_base.specs.declared.operator.OperatorState.TheVariants.{Shelved}
 use Rattle.al_base.specs.declared.severity.Status.{Status}
 use Rattle.al_base.specs.declared.severity.Status.TheVariants.{Cleared, Active}
 use Rattle.al_base.specs.declared.text.Text.{Text}
-use Rattle.al_select.specs.Filters.{compress_takes, same_text}
+use Rattle.al_select.specs.Filters.{compress_takes}
+use Rattle.al_base.specs.Texts.{same_text}
 use Rattle.al_model.specs.Alarms.{bounded, move_entry, own_entry, reported, with_operator}
 use Rattle.al_model.specs.Events.{after_event, fate, set_by, touches}
 use Rattle.al_model.specs.State.{AlarmState, State, is_on, shelf_name}

@@ -12,9 +12,11 @@ use Rattle.al_base.specs.declared.severity.Status.TheVariants.{Cleared, Active}
 use Rattle.al_base.specs.declared.text.Text.{Text}
 use Rattle.al_ids.specs.Keys.{key_cmp}
 use Rattle.al_ids.specs.declared.key.AlarmKey.{AlarmKey}
-use Rattle.al_select.specs.Filters.{Facts, same_text}
+use Rattle.al_select.specs.Filters.{Facts}
+use Rattle.al_base.specs.Texts.{same_text}
 use Rattle.al_model.specs.State.{AlarmState}
 use Rattle.al_model.specs.declared.entry.OperatorEntry.{OperatorEntry}
+use Rattle.al_record.specs.Histories.{newest}
 
 -- ---- an alarm among others
 
@@ -50,11 +52,6 @@ facts_of a = record { cleared = a.cleared; severity = a.severity; changed = a.ch
 abbrev pub says_more : AlarmState → Status → Text → Bool
 says_more a (Active severity) text = a.cleared || not (rank_of severity == rank_of a.severity) || not (same_text text a.text)
 says_more a Cleared text = not a.cleared
-
--- as many of the newest as the bound allows: all where there is none
-abbrev pub newest : {E : Type 0} → Option ℕ → List E → List E
-newest None items = items
-newest (Some bound) items = take bound items
 
 -- the alarm with another status entry, of which it keeps the newest
 abbrev pub with_status : Option ℕ → ℕ → Status → Text → AlarmState → AlarmState

@@ -24,27 +24,17 @@ use Rattle.al_model.specs.declared.event.Event.{Event}
 use Rattle.al_model.specs.declared.event.Event.TheVariants as events
 use Rattle.al_model.specs.declared.request.Request.{Request}
 use Rattle.al_model.specs.declared.request.Request.TheVariants as requests
+use Rattle.al_base.specs.Operators.{IsOperators}
+use Rattle.al_ids.specs.Limits.{IsKeyWithin}
+use Rattle.al_shelf.specs.Limits.{IsSpotWithin}
 
 -- ---- keys and reports
-
-pub record IsKeyWithin (key : AlarmKey) : Type 0 where
-  pub resource : IsResourceText key.resource
-  pub type_id : IsTypeName key.type_id
-  pub qualifier : IsQualifier key.qualifier
 
 pub record IsReportWithin (key : AlarmKey) (text : List ℕ) : Type 0 where
   pub key_within : IsKeyWithin key
   pub text_within : IsAlarmText text
 
 -- ---- operator actions
-
--- the states that an operator sets; shelves set the others
-abbrev pub IsOperators : OperatorState → Type 0
-IsOperators None0 = ⊤
-IsOperators Ack = ⊤
-IsOperators Closed = ⊤
-IsOperators Shelved = ⊥
-IsOperators UnShelved = ⊥
 
 pub record IsOperateWithin (key : AlarmKey) (state : OperatorState) (operator : List ℕ) (text : Option (List ℕ)) : Type 0 where
   pub key_within : IsKeyWithin key
@@ -73,13 +63,6 @@ pub record IsShelfWithin (shelf : Shelf) : Type 0 where
   pub types : All IsTypeMatchWithin shelf.types
   pub other_types : AllPairs (λ a b. a ≢ b) shelf.types
   pub description : IfSome shelf.description IsDescription
-
-abbrev pub IsSpotWithin : Spot → Type 0
-IsSpotWithin First = ⊤
-IsSpotWithin Last = ⊤
-IsSpotWithin (Before point) = IsShelfName point
-IsSpotWithin (After point) = IsShelfName point
-IsSpotWithin Keep = ⊤
 
 -- a shelf and its position, which an event has in one byte
 pub record IsPutWithin (shelf : Shelf) (at : ℕ) : Type 0 where

@@ -5,6 +5,6 @@ pub mod log;
 pub mod note;
 pub mod rule;
 
-pub use log::{MAX_NOTES, MAX_PAGE, NoteLog, Page};
+pub use log::{NoteLog, Page};
 pub use note::{Note, NoteBody};
 pub use rule::{Mode, NotifyRule};

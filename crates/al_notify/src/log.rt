@@ -4,15 +4,10 @@ ghost use Rattle.std.specs.Option.{option_copied};
 ghost use Rattle.std.specs.VecDeque.{deque_capacity, deque_len};
 
 use crate::note::Note;
+use al_base::limits::{MOST_NOTES, MOST_PAGE_NOTES};
 use std::alloc::{AllocError, Global};
 use std::collections::VecDeque;
 use std::marker::Model;
-
-/// The most notes that are kept.
-pub const MAX_NOTES: usize = 4096;
-
-/// The most notes of a page.
-pub const MAX_PAGE: usize = 256;
 
 /// The notifications that were sent: how many, and the last 4,096 of them.
 #[derive(Debug, Drop)]
@@ -30,7 +25,8 @@ impl Model for NoteLog {
 
     ghost view = { λ log. record { sent = log.sent; notes = log.notes.items } };
 
-    ghost invariant = { λ log. IsLog (record { sent = log.sent; notes = log.notes.items }) × (4096 ≤ deque_capacity log.notes) };
+    ghost invariant = { λ log. IsLog (record { sent = log.sent; notes = log.notes.items })
+        × (4096 ≤ deque_capacity log.notes) };
 }
 
 /// Some notes of a log, one after the other.
@@ -58,7 +54,7 @@ impl NoteLog {
         ensures { IfOk result (λ log. log ≡ empty_log) }
     {
         Ok(NoteLog {
-            notes: VecDeque::with_capacity(alloc, MAX_NOTES)?,
+            notes: VecDeque::with_capacity(alloc, MOST_NOTES)?,
             sent: 0,
         })
     }
@@ -105,7 +101,7 @@ impl<'a> Page<'a> {
     pub fn at(&self, i: usize) -> Option<&Note>
         ensures { option_copied result ≡ slice_get self.now i }
     {
-        if i < MAX_PAGE {
+        if i < MOST_PAGE_NOTES {
             self.notes.get(self.first + i)
         } else {
             None
@@ -120,7 +116,7 @@ fn make_room(notes: &mut VecDeque<Note>)
     ensures room { deque_len notes.new < 4096 }
     ensures capacity { deque_capacity notes.new ≡ deque_capacity notes.old }
 {
-    if notes.len() >= MAX_NOTES {
+    if notes.len() >= MOST_NOTES {
         let _ = notes.pop_front();
     }
 }

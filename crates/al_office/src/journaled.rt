@@ -38,9 +38,11 @@ impl<D: Disk> Model for Office<D> {
 
     ghost Value = { JournaledView D };
 
-    ghost view = { λ o. record { entries = o.ledger.entries; journal = o.journal; fixed = o.opened } };
+    ghost view = { λ o. record { entries = o.ledger.entries; journal = o.journal;
+        fixed = o.opened } };
 
-    ghost invariant = { λ o. IsKeptOn (D.told o.journal.disk) (record { entries = o.ledger.entries; journal = o.journal; fixed = o.opened }) };
+    ghost invariant = { λ o. IsKeptOn (D.told o.journal.disk) (record { entries = o.ledger.entries;
+        journal = o.journal; fixed = o.opened }) };
 }
 
 impl<D: Disk> Office<D> {
@@ -52,12 +54,20 @@ impl<D: Disk> Office<D> {
     /// Opens the office of the history that a disk's journal shows. It syncs, walks over the journal, and builds the tables from its frames.
     /// The disk comes back where it is refused.
     pub fn open(alloc: Global, disk: D) -> Result<Office<D>, (D, OfficeFault)>
-        ensures opens { IfOk result (λ office. Goes (OpensOffice office) (D.told disk) (D.told office.journal.disk)) }
-        ensures start { IfOk result (λ office. (office.journal.doubt ≡ false) × (office.fixed.length ≡ length office.entries)) }
-        ensures refuses { IfErr result (λ refusal. Goes (RefusesOffice refusal.1) (D.told disk) (D.told refusal.0)) }
-        ensures moments { MatchResult result (λ office. Goes LeavesAsBefore (D.told disk) (D.told office.journal.disk)) (λ refusal. Goes LeavesAsBefore (D.told disk) (D.told refusal.0)) }
-        ensures later { MatchResult result (λ office. D.faults disk ≤ D.faults office.journal.disk) (λ refusal. D.faults disk ≤ D.faults refusal.0) }
-        ensures cause { IfErr result (λ refusal. refusal.1 ≡ OfficeFault.Disk → Rose (D.faults disk) (D.faults refusal.0)) }
+        ensures opens { IfOk result (λ office.
+            Goes (OpensOffice office) (D.told disk) (D.told office.journal.disk)) }
+        ensures start { IfOk result (λ office. (office.journal.doubt ≡ false)
+            × (office.fixed.length ≡ length office.entries)) }
+        ensures refuses { IfErr result (λ refusal.
+            Goes (RefusesOffice refusal.1) (D.told disk) (D.told refusal.0)) }
+        ensures moments { MatchResult result (λ office.
+            Goes LeavesAsBefore (D.told disk) (D.told office.journal.disk)) (λ refusal.
+            Goes LeavesAsBefore (D.told disk) (D.told refusal.0)) }
+        ensures later { MatchResult result (λ office.
+            D.faults disk ≤ D.faults office.journal.disk) (λ refusal.
+            D.faults disk ≤ D.faults refusal.0) }
+        ensures cause { IfErr result (λ refusal. refusal.1 ≡ OfficeFault.Disk
+            → Rose (D.faults disk) (D.faults refusal.0)) }
     {
         let mut journal = match Journal::open(alloc, disk) {
             Ok(journal) => journal,
@@ -85,10 +95,12 @@ impl<D: Disk> Office<D> {
     pub fn change(&mut self, origin: u16, request: Request, now: Stamp) -> Result<Reply, Refusal>
         requires { IsRequestWithin request }
         ensures answer { IsAnswer self.old origin request now result self.new }
-        ensures crash { Goes (IsCrashSafe self.old origin request now) (D.told self.old.journal.disk) (D.told self.new.journal.disk) }
+        ensures crash { Goes (IsCrashSafe self.old origin request now)
+            (D.told self.old.journal.disk) (D.told self.new.journal.disk) }
         ensures fixed { self.new.fixed ≡ self.old.fixed }
         ensures later { D.faults self.old.journal.disk ≤ D.faults self.new.journal.disk }
-        ensures cause { result ≡ Err Refusal.Disk → Rose (D.faults self.old.journal.disk) (D.faults self.new.journal.disk) }
+        ensures cause { result ≡ Err Refusal.Disk
+            → Rose (D.faults self.old.journal.disk) (D.faults self.new.journal.disk) }
     {
         match self.ledger.decide(origin, request, now) {
             Ok((entry, reply)) => {
@@ -103,10 +115,12 @@ impl<D: Disk> Office<D> {
     fn add(&mut self, entry: Entry) -> Result<(), Refusal>
         requires { Fits (replay self.old.entries) entry }
         ensures ended { Ended self.old entry tt result self.new }
-        ensures writes { Goes (Writes self.old.journal self.old.entries entry) (D.told self.old.journal.disk) (D.told self.new.journal.disk) }
+        ensures writes { Goes (Writes self.old.journal self.old.entries entry)
+            (D.told self.old.journal.disk) (D.told self.new.journal.disk) }
         ensures fixed { self.new.fixed ≡ self.old.fixed }
         ensures later { D.faults self.old.journal.disk ≤ D.faults self.new.journal.disk }
-        ensures cause { result ≡ Err Refusal.Disk → Rose (D.faults self.old.journal.disk) (D.faults self.new.journal.disk) }
+        ensures cause { result ≡ Err Refusal.Disk
+            → Rose (D.faults self.old.journal.disk) (D.faults self.new.journal.disk) }
     {
         let Taken { record, prepared } = take(self.alloc, &self.journal, &mut self.ledger, &entry)?;
         match write(&mut self.journal, &record) {
@@ -127,7 +141,9 @@ impl<D: Disk> Office<D> {
         ensures used { self.now.journal.gate + 1 ≡ used_by self.now.entries }
         ensures now { Told (D.told self.now.journal.disk) (LeavesHistory self.now) }
         ensures longer { self.now.fixed.length ≤ length self.now.entries }
-        ensures since { Told (D.told self.now.journal.disk) (Since (ShowsFront self.now.fixed.capacity self.now.fixed.length self.now.entries) self.now.fixed.since) }
+        ensures since { Told (D.told self.now.journal.disk)
+            (Since (ShowsFront self.now.fixed.capacity self.now.fixed.length self.now.entries)
+            self.now.fixed.since) }
     {
         self.ledger.history_is_legal();
     }

@@ -27,7 +27,8 @@ impl Model for Ledger {
 
     ghost Value = { LedgerView };
 
-    ghost view = { λ l. record { entries = l.entries.items; tables = l.tables; room = vec_capacity l.entries - vec_len l.entries } };
+    ghost view = { λ l. record { entries = l.entries.items; tables = l.tables;
+        room = vec_capacity l.entries - vec_len l.entries } };
 
     ghost invariant = { λ l. IsKept l.entries.items l.tables.state };
 }
@@ -51,7 +52,8 @@ impl Ledger {
         now: Stamp,
     ) -> Result<(Entry, Reply), Result<Reply, Refusal>>
         requires { IsRequestWithin request }
-        ensures decided { result ≡ carried_out (replay self.now.entries) origin now (decision_of (replay self.now.entries) request now) }
+        ensures decided { result ≡ carried_out (replay self.now.entries) origin now
+            (decision_of (replay self.now.entries) request now) }
         ensures fits { IfOk result (λ change. Fits (replay self.now.entries) change.0) }
     {
         match to_carry_out(self.tables.decide(request, now)) {

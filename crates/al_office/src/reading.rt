@@ -26,16 +26,20 @@ fn read_next<D: Disk>(
     requires allowed { IsCapacity journal.old.capacity }
     requires place { journal.old.next + 1 ≡ used_by ledger.old.entries }
     requires within { journal.old.next < journal.old.capacity }
-    ensures read { Told (D.told journal.old.disk) (λ s. (left : List (List ℕ)) → Shows journal.old.capacity (frames_of ledger.old.entries ++ left) s.content
+    ensures read { Told (D.told journal.old.disk) (λ s. (left : List (List ℕ))
+        → Shows journal.old.capacity (frames_of ledger.old.entries ++ left) s.content
         → IsRead ledger.old.entries left result ledger.new.entries) }
-    ensures more { result ≡ Ok true → (journal.new.next + 1 ≡ used_by ledger.new.entries) × (journal.old.next < journal.new.next) }
-    ensures end { result ≡ Ok false → (journal.new.gate ≡ journal.new.next) × (journal.new.next ≡ journal.old.next) × (ledger.new.entries ≡ ledger.old.entries) }
+    ensures more { result ≡ Ok true → (journal.new.next + 1 ≡ used_by ledger.new.entries)
+        × (journal.old.next < journal.new.next) }
+    ensures end { result ≡ Ok false → (journal.new.gate ≡ journal.new.next)
+        × (journal.new.next ≡ journal.old.next) × (ledger.new.entries ≡ ledger.old.entries) }
     ensures capacity { journal.new.capacity ≡ journal.old.capacity }
     ensures within { journal.new.next < journal.new.capacity }
     ensures doubt { journal.new.doubt ≡ journal.old.doubt }
     ensures same { D.told journal.new.disk ≡ D.told journal.old.disk }
     ensures later { D.faults journal.old.disk ≤ D.faults journal.new.disk }
-    ensures cause { result ≡ Err OfficeFault.Disk → Rose (D.faults journal.old.disk) (D.faults journal.new.disk) }
+    ensures cause { result ≡ Err OfficeFault.Disk
+        → Rose (D.faults journal.old.disk) (D.faults journal.new.disk) }
     ensures no_birth { result ≡ Err OfficeFault.NotAJournal → ⊥ }
 {
     if !journal.next(frame)? {
@@ -68,13 +72,16 @@ fn entry_in(alloc: Global, frame: &[u8], ledger: &Ledger) -> Result<Entry, Offic
 pub fn read_history<D: Disk>(alloc: Global, journal: &mut Journal<D>) -> Result<Ledger, OfficeFault>
     requires allowed { IsCapacity journal.old.capacity }
     requires start { journal.old.next ≡ 13 }
-    ensures read { Told (D.told journal.old.disk) (λ s. (payloads : List (List ℕ)) → Shows journal.old.capacity payloads s.content → IsHistoryIn payloads s.content result) }
-    ensures place { IfOk result (λ ledger. (journal.new.gate + 1 ≡ used_by ledger.entries) × (journal.new.next ≡ journal.new.gate)) }
+    ensures read { Told (D.told journal.old.disk) (λ s. (payloads : List (List ℕ))
+        → Shows journal.old.capacity payloads s.content → IsHistoryIn payloads s.content result) }
+    ensures place { IfOk result (λ ledger. (journal.new.gate + 1 ≡ used_by ledger.entries)
+        × (journal.new.next ≡ journal.new.gate)) }
     ensures capacity { journal.new.capacity ≡ journal.old.capacity }
     ensures doubt { journal.new.doubt ≡ journal.old.doubt }
     ensures same { D.told journal.new.disk ≡ D.told journal.old.disk }
     ensures later { D.faults journal.old.disk ≤ D.faults journal.new.disk }
-    ensures cause { result ≡ Err OfficeFault.Disk → Rose (D.faults journal.old.disk) (D.faults journal.new.disk) }
+    ensures cause { result ≡ Err OfficeFault.Disk
+        → Rose (D.faults journal.old.disk) (D.faults journal.new.disk) }
     ensures no_birth { result ≡ Err OfficeFault.NotAJournal → ⊥ }
 {
     let mut ledger = Ledger::new(alloc)?;

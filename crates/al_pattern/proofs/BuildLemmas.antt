@@ -6,12 +6,9 @@ use Rattle.al_pattern.specs.declared.token.Quantifier.TheVariants.{Once}
 use Rattle.al_pattern.specs.declared.node.Node.{Node}
 use Rattle.al_pattern.specs.declared.node.Node.TheVariants as node
 use Rattle.al_pattern.specs.Trees.{Choice, single, either, Branch, nothing, followed, Atom, character, group}
-use Rattle.al_pattern.specs.Tokens.{open_group, bar, one}
-use Rattle.al_pattern.specs.Tests.{Test, is_allowed}
-use Rattle.al_pattern.specs.Sets.{admits}
-use Rattle.al_pattern.specs.declared.node.CharSet.{CharSet}
+use Rattle.al_pattern.specs.Tokens.{open_group}
 use Rattle.al_pattern.specs.Reading.{Progress, with_atom, put, closed}
-use Rattle.al_pattern.specs.Walk.{Seen, seen, seen_open, seen_close, seen_bar, seen_test, choice_seen, branch_seen, atom_seen, choice_size, branch_size, atom_size}
+use Rattle.al_pattern.specs.Walk.{Seen, seen, seen_open, seen_close, seen_bar, choice_seen, branch_seen, atom_seen, choice_size, branch_size, atom_size}
 use Rattle.al_pattern.specs.Builds.{Builds, outer_seen, outer_size, openings}
 
 -- a part compiles to as many nodes as its size says

@@ -32,7 +32,8 @@ impl Builder {
     /// Adds a token.
     pub fn put(&mut self, token: Token) -> Result<(), AllocError>
         requires { (p : Progress) × Builds p self.old.nodes.items self.old.opens.items }
-        ensures { OnOk result ((p : Progress) → Builds p self.old.nodes.items self.old.opens.items → Builds (put (shown token) p) self.new.nodes.items self.new.opens.items) }
+        ensures { OnOk result ((p : Progress) → Builds p self.old.nodes.items self.old.opens.items
+            → Builds (put (shown token) p) self.new.nodes.items self.new.opens.items) }
     {
         match token {
             Token::Bar => self.nodes.push(Node::Bar)?,
@@ -51,7 +52,8 @@ impl Builder {
     /// Ends the innermost group, and tells its beginning the quantifier and the end.
     fn close(&mut self, quantifier: Quantifier) -> Result<(), AllocError>
         requires { (p : Progress) × Builds p self.old.nodes.items self.old.opens.items }
-        ensures { OnOk result ((p : Progress) → Builds p self.old.nodes.items self.old.opens.items → Builds (put (close_group quantifier) p) self.new.nodes.items self.new.opens.items) }
+        ensures { OnOk result ((p : Progress) → Builds p self.old.nodes.items self.old.opens.items
+            → Builds (put (close_group quantifier) p) self.new.nodes.items self.new.opens.items) }
     {
         if let Some(open) = self.opens.pop() {
             let inner = self.nodes.len() - open - 1;
@@ -64,7 +66,8 @@ impl Builder {
 
 /// Compiles a text, or answers its first fault.
 pub fn compile(alloc: Global, text: &[u8]) -> Result<Vec<Node>, ReadError>
-    ensures { MatchResult result (λ nodes. AreNodesOf nodes.items text.now) (λ e. Fails e (reading text.now)) }
+    ensures { MatchResult result (λ nodes. AreNodesOf nodes.items text.now) (λ e.
+        Fails e (reading text.now)) }
 {
     let mut builder = Builder::new(alloc);
     let mut count = 0;

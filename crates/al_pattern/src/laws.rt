@@ -25,7 +25,8 @@ pub fn no_fault()
 
 /// The first fault of a text stands where the grammar says, and no other does.
 pub fn fault_place()
-    ensures { (text : List ℕ) (fault : PatternFault) → (first_fault text ≡ Some fault ↔ IsPlaced text fault) }
+    ensures { (text : List ℕ) (fault : PatternFault)
+        → (first_fault text ≡ Some fault ↔ IsPlaced text fault) }
 {}
 
 /// Whether a text is in the language of a pattern, as a function, is what the relation says.

@@ -52,7 +52,8 @@ fn insert_item(bytes: &mut [u64; 4], item: &Item)
 }
 
 fn insert_items(bytes: &mut [u64; 4], items: &[Item])
-    ensures { (c : ℕ) → is_in bytes.new c ≡ (list_any (is_in_item c) items.now || is_in bytes.old c) }
+    ensures { (c : ℕ) → is_in bytes.new c
+        ≡ (list_any (is_in_item c) items.now || is_in bytes.old c) }
 {
     for item in items {
         insert_item(bytes, item);

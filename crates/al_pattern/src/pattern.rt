@@ -48,9 +48,11 @@ impl Pattern {
         // What is read is a pattern: the text is the spelling of its tree.
         ensures found { IfOk result (λ p. (p ≡ text.now) × IsSpelled (tree_of p) p) }
         // What is a pattern is read, unless memory runs out.
-        ensures only { (tree : Choice) → IsSpelled tree text.now → IsOkUnless result PatternFault.Memory }
+        ensures only { (tree : Choice) → IsSpelled tree text.now
+            → IsOkUnless result PatternFault.Memory }
         // An error is the first fault, and what is read has none.
-        ensures fault { MatchResult result (λ p. first_fault text.now ≡ None) (λ e. IsFirstFault text.now e) }
+        ensures fault { MatchResult result (λ p. first_fault text.now ≡ None) (λ e.
+            IsFirstFault text.now e) }
         // It stands where the grammar says: by what trees may begin with, and not by how the text is read.
         ensures place { IfErr result (λ e. (e ≡ PatternFault.Memory) ⊎ IsPlaced text.now e) }
     {
@@ -128,7 +130,8 @@ impl fmt::Debug for Pattern {
 
 /// The answer where a text of that length isn't compiled.
 fn refusal(error: ReadError, len: usize) -> PatternFault
-    ensures { (text : List ℕ) → length text ≡ len → Fails error (reading text) → IsFirstFault text result }
+    ensures { (text : List ℕ) → length text ≡ len → Fails error (reading text)
+        → IsFirstFault text result }
 {
     match error {
         ReadError::Fault(fault) => placed(fault, len),

@@ -20,7 +20,8 @@ pub fn takes_nothing(nodes: &[Node]) -> bool
 /// Whether the whole text is in the language of the pattern.
 pub fn accepts(nodes: &[Node], nullable: bool, text: &str) -> bool
     requires { (x : Choice) × IsProgram nodes.now nullable x }
-    ensures { (x : Choice) → IsProgram nodes.now nullable x → (IsTrue result ↔ IsInLanguage x (chars text.now)) }
+    ensures { (x : Choice) → IsProgram nodes.now nullable x
+        → (IsTrue result ↔ IsInLanguage x (chars text.now)) }
 {
     let mut marks = no_marks();
     let mut start = true;

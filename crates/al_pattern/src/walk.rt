@@ -125,8 +125,10 @@ impl Walk {
         requires fits { FitsIn self.old.free (seen c node) }
         ensures free { self.new.free ≡ free_after self.old.free (seen c node) }
         ensures runs { (nodes : List Seen) (olds : List Bool) → Holds old.now olds →
-            run (seen c node ∷ nodes) (drop i olds) self.old.level (drop self.old.free self.old.levels)
-            ≡ emitted result (run nodes (drop (i + 1) olds) self.new.level (drop self.new.free self.new.levels)) }
+            run (seen c node ∷ nodes) (drop i olds) self.old.level
+                (drop self.old.free self.old.levels)
+            ≡ emitted result (run nodes (drop (i + 1) olds) self.new.level
+                (drop self.new.free self.new.levels)) }
     {
         match node {
             Node::Bar => {
@@ -164,7 +166,8 @@ impl Walk {
 pub fn step(nodes: &[Node], start: bool, c: char, old: &[u64; 8]) -> ([u64; 8], Level)
     requires few { length nodes.now ≤ 512 }
     requires nests { Nests 16 (map (seen c) nodes.now) }
-    ensures { (olds : List Bool) → Holds old.now olds → Steps (map (seen c) nodes.now) olds start result.0 result.1 }
+    ensures { (olds : List Bool) → Holds old.now olds
+        → Steps (map (seen c) nodes.now) olds start result.0 result.1 }
 {
     let mut new = no_marks();
     let mut walk = Walk::begun(start);

@@ -23,7 +23,7 @@ use Rattle.al_model.specs.declared.request.Request.{Request}
 use Rattle.al_office.specs.Changing.{Ended, HasRoom, IsAnswer as IsOfficeAnswer, IsDecided}
 use Rattle.al_office.specs.Images.{used_by}
 use Rattle.al_office.specs.Journaled.{JournaledView, journaled_mark}
-use Rattle.al_uri.specs.Answers.{AnswersBy, and_then}
+use Rattle.al_base.specs.Answers.{AnswersBy, and_then}
 use Rattle.al_uri.specs.declared.target.Target.{Target}
 use Rattle.al_restconf.specs.Changes.{Answer, Verdict, Tell, Carries, HasDiskFailed, IsCarriedOut, IsRefused, changed, decided, in_journal, journaled, success}
 use Rattle.al_restconf.specs.Faults.{IsDue, refused, told}

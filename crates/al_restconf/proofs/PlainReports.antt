@@ -8,7 +8,7 @@ use Rattle.al_input.specs.Inputs.{body, input_of, report, report_input, whole}
 use Rattle.al_input.specs.declared.fault.InputFault.{InputFault}
 use Rattle.al_input.specs.declared.fault.InputFault.TheVariants.{Unknown, Missing, BadValue, Memory}
 use Rattle.al_model.specs.declared.request.Request.{Request}
-use Rattle.al_uri.specs.Answers.{and_then}
+use Rattle.al_base.specs.Answers.{and_then}
 use Rattle.al_uri.specs.declared.target.Target.TheVariants.{Report}
 use Rattle.serde_json.specs.Data.{Data}
 use Rattle.serde_json.specs.Read.{read}

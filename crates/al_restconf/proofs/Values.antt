@@ -36,11 +36,3 @@ two_values (value ∷ other ∷ values) name some = refl
 
 pub operator_holds : (name : List ℕ) → is_operator_name name ≡ true → IsOperatorName name
 operator_holds name passed = (decides_operator_name name).0 passed
-
-pub operator_is_utf8 : (name : List ℕ) → is_operator_name name ≡ true → IsUtf8 name
-operator_is_utf8 name passed =
-    let is = (decides_operator_name name).0 passed in
-    IsUtf8-from_ascii name (λ i. elim (cases_lt i (length name)) [
-      | inl lt ↦ omega (arith, (is.printed i 0 lt).1)
-      | inr le ↦ rw (get_or_past name i 0 le) (omega arith)
-    ])

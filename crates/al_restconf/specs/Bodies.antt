@@ -9,7 +9,7 @@ use Rattle.al_input.specs.declared.fault.InputFault.{InputFault}
 use Rattle.al_input.specs.declared.fault.InputFault.TheVariants as inputs
 use Rattle.al_model.specs.declared.request.Request.{Request}
 use Rattle.al_model.specs.declared.request.Request.TheVariants as requests
-use Rattle.al_uri.specs.Answers.{and_then, or_fault}
+use Rattle.al_base.specs.Answers.{and_then, or_fault}
 use Rattle.al_uri.specs.declared.target.Target.{Target}
 use Rattle.al_uri.specs.declared.target.Target.TheVariants.{OneShelf, SetState, PurgeAlarms, CompressAlarms, PurgeShelved, CompressShelved}
 use Rattle.serde_json.specs.Data.{Data, no_members, object}

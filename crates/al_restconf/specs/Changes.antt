@@ -20,7 +20,7 @@ use Rattle.al_model.specs.declared.kept.Mark.{Mark}
 use Rattle.al_model.specs.declared.request.Request.{Request}
 use Rattle.al_model.specs.declared.request.Request.TheVariants as requests
 use Rattle.al_office.specs.Images.{used_by}
-use Rattle.al_uri.specs.Answers.{and_then}
+use Rattle.al_base.specs.Answers.{and_then}
 use Rattle.al_uri.specs.declared.target.Target.{Target}
 use Rattle.al_uri.specs.declared.target.Target.TheVariants as targets
 use Rattle.al_restconf.specs.Faults.{IsDue, refused}

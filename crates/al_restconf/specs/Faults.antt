@@ -5,7 +5,7 @@ use Rattle.al_http.specs.declared.response.Response.{Response}
 use Rattle.al_model.specs.Refusals.{refusal_number}
 use Rattle.al_model.specs.declared.decision.Refusal.{Refusal}
 use Rattle.al_model.specs.declared.decision.Refusal.TheVariants as refusals
-use Rattle.al_uri.specs.Answers.{AnswersBy}
+use Rattle.al_base.specs.Answers.{AnswersBy}
 use Rattle.al_restconf.specs.declared.fault.Fault.{Fault}
 use Rattle.al_restconf.specs.declared.fault.Fault.TheVariants.{NoSuchPath, BadEscape, BadKeys, BadQuery, NoSuchMethod, NotAcceptable, UnsupportedType, NotJson, MissingOperator, BadOperator, UnknownMember, MissingMember, BadValue, NotSet, Refused, Memory}
 

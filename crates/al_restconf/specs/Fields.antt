@@ -3,7 +3,7 @@ use Rattle.std.specs.Prelude.{⊤, ℕ, ◌==◌, Bool, true, false, not, ◌||�
 use Rattle.std.specs.List.{list_any}
 use Rattle.al_base.specs.Limits.{is_operator_name}
 use Rattle.al_http.specs.Requests.{RequestMessage, names, values_of}
-use Rattle.al_uri.specs.Cuts.{front, pieces}
+use Rattle.al_base.specs.Cuts.{front, pieces}
 use Rattle.al_uri.specs.declared.target.Target.{Target}
 use Rattle.al_uri.specs.declared.target.Target.TheVariants.{HostMeta}
 use Rattle.al_restconf.specs.Faults.{needs}

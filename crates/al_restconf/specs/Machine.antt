@@ -7,7 +7,7 @@ use Rattle.al_http.specs.declared.response.Response.{Response}
 use Rattle.al_model.specs.declared.decision.Refusal.TheVariants.{Disk}
 use Rattle.al_model.specs.declared.entry.Entry.{Entry}
 use Rattle.al_model.specs.declared.kept.Mark.{Mark}
-use Rattle.al_uri.specs.Answers.{and_then}
+use Rattle.al_base.specs.Answers.{and_then}
 use Rattle.al_uri.specs.Resources.{is_same}
 use Rattle.al_uri.specs.declared.target.Target.{Target}
 use Rattle.al_restconf.specs.Bodies.{request_asks}

@@ -7,7 +7,7 @@ use Rattle.al_json.specs.Trees.{tree_of}
 use Rattle.al_model.specs.History.{replay}
 use Rattle.al_model.specs.declared.decision.Refusal.TheVariants.{NoAlarm, NoShelf}
 use Rattle.al_model.specs.declared.entry.Entry.{Entry}
-use Rattle.al_uri.specs.Answers.{and_then, or_fault}
+use Rattle.al_base.specs.Answers.{and_then, or_fault}
 use Rattle.al_uri.specs.declared.target.Target.{Target}
 use Rattle.al_uri.specs.declared.target.Target.TheVariants.{HostMeta, OneShelf, OneAlarm, OneShelved, JournalPage}
 use Rattle.serde_json.specs.Data.{Data}

@@ -63,7 +63,8 @@ fn read_data(alloc: Global, target: &Target, body: &[u8]) -> Result<Value, Fault
 #[tactic(auto, unfolding(al_model::specs::Limits::IsRequestWithin))]
 fn asked_by(operator: Option<Text>, asked: Asked) -> Result<Request, Fault>
     ensures exact { Answers (asked_by operator asked) result }
-    ensures within { IfSome operator IsOperatorName → IsAskedWithin asked → IfOk result IsRequestWithin }
+    ensures within { IfSome operator IsOperatorName → IsAskedWithin asked
+        → IfOk result IsRequestWithin }
 {
     match (operator, asked) {
         (_, Asked::Whole(request)) => Ok(request),
@@ -91,7 +92,8 @@ fn body_asks(alloc: Global, target: &Target, request: &HttpRequest) -> Result<Re
 
 /// What a report asks, where its members are texts, as those of instrumentation mostly are. It is read without a tree. None tells nothing.
 fn plain_asks(alloc: Global, request: &HttpRequest) -> Option<Result<Request, Fault>>
-    ensures exact { IfSome result (λ answer. Answers (body_asks Target.Report (message_of request.now)) answer) }
+    ensures exact { IfSome result (λ answer.
+        Answers (body_asks Target.Report (message_of request.now)) answer) }
     ensures within { IfSome result (λ answer. IfOk answer IsRequestWithin) }
 {
     match plain_report(alloc, request.body())? {

@@ -25,7 +25,9 @@ pub fn change<D: Disk>(
     now: Stamp,
 ) -> Result<Response, Fault>
     requires { IsRequestWithin asked }
-    ensures carried { Carries (journaled_mark (D.faults office.old.journal.disk) office.old) (journaled_mark (D.faults office.new.journal.disk) office.new) origin (changed office.old.entries origin now target.now asked) result }
+    ensures carried { Carries (journaled_mark (D.faults office.old.journal.disk) office.old)
+        (journaled_mark (D.faults office.new.journal.disk) office.new) origin
+        (changed office.old.entries origin now target.now asked) result }
     ensures place { IfOk result (λ response. response.place ≡ Some (length office.old.entries)) }
     ensures text { IfOk result HasText }
     ensures fixed { office.new.fixed ≡ office.old.fixed }

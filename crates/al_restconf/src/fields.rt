@@ -7,7 +7,7 @@ ghost use Rattle.al_restconf.specs.Fields.{accept, accepted, accepts, answered_t
 ghost use Rattle.std.specs.Option.{option_map_or};
 ghost use Rattle.std.specs.Prelude.{◌≡◌, codes, false, slice_get};
 
-use crate::cut::cut;
+use al_base::cut::cut;
 use crate::fault::Fault;
 use crate::method::Method;
 use al_http::{HttpRequest, trimmed};
@@ -40,7 +40,7 @@ fn is_answered_type(media_type: &[u8]) -> bool
 }
 
 /// Whether some member of the field's value is a type that is answered.
-#[tactic(auto, using(al_uri::proofs::CutLemmas::pieces_cut))]
+#[tactic(auto, using(al_base::proofs::CutLemmas::pieces_cut))]
 fn accepts(value: &[u8]) -> bool
     ensures { result ≡ accepts value.now }
 {
@@ -57,7 +57,8 @@ fn accepts(value: &[u8]) -> bool
 
 /// Whether `Accept` field number `n`, counted from 0, accepts a type that is answered.
 fn accepts_at(request: &HttpRequest, n: usize) -> bool
-    ensures { result ≡ option_map_or accepts (slice_get (values_of (codes "accept") (message_of request.now).fields) n) false }
+    ensures { result ≡ option_map_or accepts
+        (slice_get (values_of (codes "accept") (message_of request.now).fields) n) false }
 {
     match request.field(b"accept", n) {
         Some(value) => accepts(value),
@@ -93,7 +94,8 @@ pub fn check_accept(target: &Target, request: &HttpRequest) -> Result<(), Fault>
 
 /// Whether the first `Content-Type` field of the request, if there is one, names a type that is read.
 fn has_read_type(request: &HttpRequest) -> bool
-    ensures { result ≡ is_read (slice_get (values_of (codes "content-type") (message_of request.now).fields) 0) }
+    ensures { result ≡ is_read
+        (slice_get (values_of (codes "content-type") (message_of request.now).fields) 0) }
 {
     match request.field(b"content-type", 0) {
         Some(value) => is_read_type(value),

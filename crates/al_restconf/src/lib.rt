@@ -3,7 +3,6 @@
 
 mod body;
 mod change;
-mod cut;
 pub mod fault;
 mod fields;
 pub mod machine;

@@ -41,7 +41,9 @@ fn done_by<D: Disk>(
     now: Stamp,
 ) -> Result<Response, Fault>
     requires { IsTargetWithin target.now }
-    ensures carried { Carries (journaled_mark (D.faults office.old.journal.disk) office.old) (journaled_mark (D.faults office.new.journal.disk) office.new) origin (done_by office.old.entries origin now target.now method (message_of request.now)) result }
+    ensures carried { Carries (journaled_mark (D.faults office.old.journal.disk) office.old)
+        (journaled_mark (D.faults office.new.journal.disk) office.new) origin
+        (done_by office.old.entries origin now target.now method (message_of request.now)) result }
     ensures place { IfOk result (λ response. response.place ≡ Some (length office.old.entries)) }
     ensures text { IfOk result HasText }
     ensures fixed { office.new.fixed ≡ office.old.fixed }
@@ -78,7 +80,9 @@ fn answered<D: Disk>(
     request: &HttpRequest,
     now: Stamp,
 ) -> Result<Response, Fault>
-    ensures carried { Carries (journaled_mark (D.faults office.old.journal.disk) office.old) (journaled_mark (D.faults office.new.journal.disk) office.new) origin (verdict_of office.old.entries origin now (message_of request.now)) result }
+    ensures carried { Carries (journaled_mark (D.faults office.old.journal.disk) office.old)
+        (journaled_mark (D.faults office.new.journal.disk) office.new) origin
+        (verdict_of office.old.entries origin now (message_of request.now)) result }
     ensures place { IfOk result (λ response. response.place ≡ Some (length office.old.entries)) }
     ensures text { IfOk result HasText }
     ensures fixed { office.new.fixed ≡ office.old.fixed }
@@ -90,7 +94,8 @@ fn answered<D: Disk>(
 
 /// How a fault is told; want of memory is told by the caller.
 fn tell(fault: Fault, place: u64) -> Result<Response, AllocError>
-    ensures value { IfOk result (λ response. (response ≡ told place fault) × ¬ (fault ≡ Fault.Memory)) }
+    ensures value { IfOk result (λ response. (response ≡ told place fault)
+        × ¬ (fault ≡ Fault.Memory)) }
     ensures place { IfOk result (λ response. response.place ≡ Some place) }
     ensures text { IfOk result HasText }
 {
@@ -112,8 +117,12 @@ pub fn answer<D: Disk>(
     request: &HttpRequest,
     now: Stamp,
 ) -> Result<Response, AllocError>
-    ensures answered { IfOk result (λ response. IsAnswer (journaled_mark (D.faults office.old.journal.disk) office.old) origin (message_of request.now) now response (journaled_mark (D.faults office.new.journal.disk) office.new)) }
-    ensures adds { Adds origin (journaled_mark (D.faults office.old.journal.disk) office.old) (journaled_mark (D.faults office.new.journal.disk) office.new) }
+    ensures answered { IfOk result (λ response.
+        IsAnswer (journaled_mark (D.faults office.old.journal.disk) office.old) origin
+        (message_of request.now) now response
+        (journaled_mark (D.faults office.new.journal.disk) office.new)) }
+    ensures adds { Adds origin (journaled_mark (D.faults office.old.journal.disk) office.old)
+        (journaled_mark (D.faults office.new.journal.disk) office.new) }
     ensures place { IfOk result (λ response. response.place ≡ Some (length office.old.entries)) }
     ensures text { IfOk result HasText }
     ensures unanswered { OnErr result (office.new.entries ≡ office.old.entries) }

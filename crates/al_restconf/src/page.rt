@@ -27,7 +27,8 @@ fn frame_at<D: Disk>(
     office: &Office<D>,
     n: usize,
 ) -> Result<Option<Vec<u8>>, AllocError>
-    ensures { IfOk result (λ frame. option_map (λ f. f.items) frame ≡ slice_get (frames_of office.now.entries) n) }
+    ensures { IfOk result (λ frame.
+        option_map (λ f. f.items) frame ≡ slice_get (frames_of office.now.entries) n) }
 {
     office.keeps_its_history();
     match office.entry(n) {
@@ -53,7 +54,8 @@ pub fn page_texts<D: Disk>(
     office: &Office<D>,
     start: u32,
 ) -> Result<Vec<Text>, AllocError>
-    ensures { IfOk result (λ texts. texts.items ≡ map encode_lower (page_of office.now.entries start)) }
+    ensures { IfOk result (λ texts.
+        texts.items ≡ map encode_lower (page_of office.now.entries start)) }
 {
     match frame_at(alloc, office, start as usize)? {
         Some(frame) => {
@@ -72,7 +74,10 @@ fn texts_from<D: Disk>(
     frame: Vec<u8>,
 ) -> Result<Vec<Text>, AllocError>
     requires { first < 4294967296 }
-    ensures { IfOk result (λ texts. texts.items ≡ (encode_lower frame.items ∷ []) ++ map encode_lower (front_within 63 (1048576 - length frame.items) (drop (first + 1) (frames_of office.now.entries)))) }
+    ensures { IfOk result (λ texts.
+        texts.items ≡ (encode_lower frame.items ∷ [])
+        ++ map encode_lower (front_within 63 (1048576 - length frame.items)
+        (drop (first + 1) (frames_of office.now.entries)))) }
 {
     let room = MOST_BYTES.saturating_sub(frame.len());
     let mut texts = Vec::new(alloc);
@@ -90,7 +95,9 @@ fn add_frames<D: Disk>(
     texts: &mut Vec<Text>,
 ) -> Result<(), AllocError>
     requires { next ≤ 4294967296 }
-    ensures { OnOk result (texts.new.items ≡ texts.old.items ++ map encode_lower (front_within 63 room (drop next (frames_of office.now.entries)))) }
+    ensures { OnOk result (texts.new.items
+        ≡ texts.old.items ++ map encode_lower
+        (front_within 63 room (drop next (frames_of office.now.entries)))) }
 {
     let mut left = room;
     for more in 0..MORE_ENTRIES {

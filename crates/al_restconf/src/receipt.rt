@@ -41,7 +41,9 @@ fn created(alloc: Global, request: &Request) -> Result<Option<Text>, AllocError>
 impl Receipt {
     /// How the request will be answered at the resource where it is carried out.
     pub fn of(alloc: Global, target: &Target, request: &Request) -> Result<Receipt, AllocError>
-        ensures answer { IfOk result (λ receipt. (place : ℕ) (reply : Reply) → answer_with receipt place target.now reply ≡ success place target.now request.now reply) }
+        ensures answer { IfOk result (λ receipt. (place : ℕ) (reply : Reply)
+            → answer_with receipt place target.now reply
+            ≡ success place target.now request.now reply) }
         ensures room { IfOk result HasRoom }
     {
         Ok(match target {
@@ -88,7 +90,8 @@ fn made_at(place: u64, name: Option<Text>) -> Response
 /// The answer that so many alarms were taken.
 fn counted(mut room: Vec<u8>, place: u64, target: &Target, count: u32) -> Response
     requires { HasRoom (Receipt.Counted room) }
-    ensures value { result ≡ answer_with (Receipt.Counted room) place target.now (Reply.Count count) }
+    ensures value { result ≡ answer_with (Receipt.Counted room) place target.now
+        (Reply.Count count) }
     ensures place { result.place ≡ Some place }
     ensures text { HasText result }
 {

@@ -5,14 +5,15 @@ use Rattle.std.specs.Cmp.Lexicographic.{bytes_decides}
 use Rattle.std.specs.Option.{IfSome, option_map_or}
 use Rattle.std.proofs.lemmas.Bool.Decides.{Decides-eqb, Decides-ltb}
 use Rattle.std.proofs.lemmas.Option.{same_Some}
-use Rattle.al_base.specs.Names.{rank_of}
+use Rattle.al_base.specs.Names.{rank_of, state_number}
 use Rattle.al_base.specs.declared.operator.OperatorState.{OperatorState}
 use Rattle.al_base.specs.declared.operator.OperatorState.TheVariants.{None0, Ack, Closed, Shelved, UnShelved}
 use Rattle.al_base.specs.declared.severity.Severity.{Severity}
 use Rattle.al_base.specs.declared.severity.Severity.TheVariants.{Indeterminate, Warning, Minor, Major, Critical}
 use Rattle.al_ids.specs.declared.key.AlarmKey.{AlarmKey}
 use Rattle.al_ids.proofs.MatchingLaws.{decides_match}
-use Rattle.al_select.specs.Filters.{Facts, compress_takes, has_clearance, is_by, is_older, operator_of, purge_takes, same_state, same_text, stands, state_number, state_of}
+use Rattle.al_select.specs.Filters.{Facts, compress_takes, has_clearance, is_by, is_older, operator_of, purge_takes, same_state, stands, state_of}
+use Rattle.al_base.specs.Texts.{same_text}
 use Rattle.al_select.specs.Meets.{HasClearance, MeetsCompress, MeetsPurge, Stands}
 use Rattle.al_select.specs.declared.compress.CompressFilter.{CompressFilter}
 use Rattle.al_select.specs.declared.purge.Clearance.{Clearance}

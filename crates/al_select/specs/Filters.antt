@@ -1,10 +1,9 @@
 -- Which alarms filters take, as functions.
 use Rattle.std.specs.Prelude.{ℕ, ◌-◌, ◌==◌, nat_lt, Bool, true, false, not, ◌&&◌, Option, None, Some, List}
-use Rattle.std.specs.Cmp.Lexicographic.{pointwise}
 use Rattle.std.specs.Option.{option_map, option_map_or, unwrap_or}
-use Rattle.al_base.specs.Names.{rank_of}
+use Rattle.al_base.specs.Names.{rank_of, state_number}
 use Rattle.al_base.specs.declared.operator.OperatorState.{OperatorState}
-use Rattle.al_base.specs.declared.operator.OperatorState.TheVariants.{None0, Ack, Closed, Shelved, UnShelved}
+use Rattle.al_base.specs.declared.operator.OperatorState.TheVariants.{None0}
 use Rattle.al_base.specs.declared.severity.Severity.{Severity}
 use Rattle.al_ids.specs.Matching.{matches}
 use Rattle.al_ids.specs.declared.key.AlarmKey.{AlarmKey}
@@ -15,6 +14,7 @@ use Rattle.al_select.specs.declared.purge.Clearance.TheVariants.{Any, Cleared, N
 use Rattle.al_select.specs.declared.purge.Compare.{Compare}
 use Rattle.al_select.specs.declared.purge.Compare.TheVariants.{Below, Equal, Above}
 use Rattle.al_select.specs.declared.purge.PurgeFilter.{PurgeFilter}
+use Rattle.al_base.specs.Texts.{same_text}
 
 -- what a purge asks of an alarm; the newest operator entry is its state and its operator
 pub record Facts : Type 0 where
@@ -52,19 +52,8 @@ stands Below severity given = nat_lt (rank_of severity) (rank_of given)
 stands Equal severity given = rank_of severity == rank_of given
 stands Above severity given = nat_lt (rank_of given) (rank_of severity)
 
--- operator states are told apart by numbers
-abbrev pub state_number : OperatorState → ℕ
-state_number None0 = 0
-state_number Ack = 1
-state_number Closed = 2
-state_number Shelved = 3
-state_number UnShelved = 4
-
 abbrev pub same_state : OperatorState → OperatorState → Bool
 same_state a b = state_number a == state_number b
-
-abbrev pub same_text : List ℕ → List ℕ → Bool
-same_text a b = pointwise ◌==◌ a b
 
 -- there is an operator, and it is this one
 abbrev pub is_by : Option (List ℕ) → List ℕ → Bool

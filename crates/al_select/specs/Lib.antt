@@ -1,2 +1,3 @@
+pub mod Clearances
 pub mod Filters
 pub mod Meets

@@ -1,5 +1,6 @@
 ghost use Rattle.al_ids.specs.Matching.{matches};
-ghost use Rattle.al_select.specs.Filters.{compress_takes, same_text};
+ghost use Rattle.al_select.specs.Filters.{compress_takes};
+ghost use Rattle.al_base.specs.Texts.{same_text};
 ghost use Rattle.al_select.specs.Meets.{MeetsCompress};
 ghost use Rattle.std.specs.Option.{option_map_or};
 ghost use Rattle.std.specs.Prelude.{◌≡◌, ◌↔◌, true, IsTrue};

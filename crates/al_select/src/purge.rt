@@ -95,7 +95,8 @@ impl PurgeFilter {
     }
 
     fn takes_state(&self, facts: &AlarmFacts) -> bool
-        ensures { result ≡ option_map_or (same_state (state_of (facts_of facts.now))) self.now.state true }
+        ensures { result ≡ option_map_or (same_state (state_of (facts_of facts.now))) self.now.state
+            true }
     {
         match self.state {
             Some(state) => newest_state(facts) == state,
@@ -104,7 +105,8 @@ impl PurgeFilter {
     }
 
     fn takes_operator(&self, facts: &AlarmFacts) -> bool
-        ensures { result ≡ option_map_or (is_by (operator_of (facts_of facts.now))) self.now.user true }
+        ensures { result ≡ option_map_or (is_by (operator_of (facts_of facts.now))) self.now.user
+            true }
     {
         match (&self.user, facts.newest) {
             (None, _) => true,

@@ -59,8 +59,10 @@ pub fn converse<T: Kept, U: Turns<T>, V: Service<T>, S: Source, O: Sink, K: Cloc
     requires idle { U.taken turns.old ≡ false }
     requires own { U.may_add turns.old origin ≡ true }
     requires left { HasTurns (U.left turns.old) request_limit }
-    ensures conversation { IsConversation (V.answers service.old) (U.may_add turns.old) origin (U.seen turns.old) (U.seen turns.new) (S.left source.old)
-        (record { old_output = O.held sink.old; new_output = O.held sink.new; old_clock = K.readings clock.old; new_clock = K.readings clock.new }) result }
+    ensures conversation { IsConversation (V.answers service.old) (U.may_add turns.old) origin
+        (U.seen turns.old) (U.seen turns.new) (S.left source.old)
+        (record { old_output = O.held sink.old; new_output = O.held sink.new;
+            old_clock = K.readings clock.old; new_clock = K.readings clock.new }) result }
     ensures idle { U.taken turns.new ≡ false }
     ensures left { U.left turns.new ≡ turns_less (U.left turns.old) result.requests }
     ensures few { result.requests ≤ request_limit }
@@ -68,8 +70,10 @@ pub fn converse<T: Kept, U: Turns<T>, V: Service<T>, S: Source, O: Sink, K: Cloc
     ensures identity { U.identity turns.new ≡ U.identity turns.old }
     ensures may_add { U.may_add turns.new ≡ U.may_add turns.old }
     ensures same { service.new ≡ service.old }
-    ensures read_fault { result.cause ≡ Cause.ReadFault → Rose (S.faults source.old) (S.faults source.new) }
-    ensures write_fault { result.cause ≡ Cause.WriteFault → Rose (O.faults sink.old) (O.faults sink.new) }
+    ensures read_fault { result.cause ≡ Cause.ReadFault
+        → Rose (S.faults source.old) (S.faults source.new) }
+    ensures write_fault { result.cause ≡ Cause.WriteFault
+        → Rose (O.faults sink.old) (O.faults sink.new) }
     ensures later_source { S.faults source.old ≤ S.faults source.new }
     ensures later_sink { O.faults sink.old ≤ O.faults sink.new }
 {
@@ -119,8 +123,11 @@ fn take_turn<T: Kept, U: Turns<T>, V: Service<T>, O: Sink, K: Clock>(
     requires idle { U.taken turns.old ≡ false }
     requires own { U.may_add turns.old origin ≡ true }
     requires left { HasTurn (U.left turns.old) }
-    ensures turn { TakesTurn (V.answers service.old) (U.may_add turns.old) origin (U.seen turns.old) (U.seen turns.new) (message_of request.now)
-        (record { old_output = O.held sink.old; new_output = O.held sink.new; old_clock = K.readings clock.old; new_clock = K.readings clock.new }) number result.0 result.1 }
+    ensures turn { TakesTurn (V.answers service.old) (U.may_add turns.old) origin (U.seen turns.old)
+        (U.seen turns.new) (message_of request.now)
+        (record { old_output = O.held sink.old; new_output = O.held sink.new;
+            old_clock = K.readings clock.old; new_clock = K.readings clock.new }) number result.0
+            result.1 }
     ensures few { result.0 ≤ 1 }
     ensures last { IfOk result.1 (λ last. last ≡ is_last (message_of request.now)) }
     ensures idle { U.taken turns.new ≡ false }
@@ -151,7 +158,9 @@ fn answer_in_turn<T: Kept, U: Turns<T>, V: Service<T>, K: Clock>(
     requires idle { U.taken turns.old ≡ false }
     requires own { U.may_add turns.old origin ≡ true }
     requires left { HasTurn (U.left turns.old) }
-    ensures turn { GivesTurn (V.answers service.old) (U.may_add turns.old) origin (U.seen turns.old) (U.seen turns.new) (message_of request.now) (K.readings clock.old) (K.readings clock.new) result.1 result.0 }
+    ensures turn { GivesTurn (V.answers service.old) (U.may_add turns.old) origin (U.seen turns.old)
+        (U.seen turns.new) (message_of request.now) (K.readings clock.old) (K.readings clock.new)
+        result.1 result.0 }
     ensures text { HasText result.0 }
     ensures few { result.1 ≤ 1 }
     ensures idle { U.taken turns.new ≡ false }
@@ -176,7 +185,8 @@ fn answer<T: Kept, V: Service<T>>(
     request: &HttpRequest,
     now: Stamp,
 ) -> (Response, u64)
-    ensures turn { IsAnswered (V.answers service.old) origin (T.mark kept.old) (T.mark kept.new) (message_of request.now) now result.1 result.0 }
+    ensures turn { IsAnswered (V.answers service.old) origin (T.mark kept.old) (T.mark kept.new)
+        (message_of request.now) now result.1 result.0 }
     ensures text { HasText result.0 }
     ensures few { result.1 ≤ 1 }
     ensures counted { IsCounted (T.mark kept.new) }

@@ -31,9 +31,14 @@ pub trait Doors: Drop {
 
     /// The next connection; None is the end of the door.
     fn next_connection(&mut self) -> Result<Option<(Self::In, Self::Out)>, DoorFault>
-        ensures gives { IfOk result (λ got. IfSome got (λ connection. Gives (state self.old) (connection_of Self.In.left Self.In.faults Self.Out.held Self.Out.faults connection.0 connection.1) (state self.new))) }
+        ensures gives { IfOk result (λ got.
+            IfSome got (λ connection.
+            Gives (state self.old)
+            (connection_of Self.In.left Self.In.faults Self.Out.held Self.Out.faults connection.0
+            connection.1) (state self.new))) }
         ensures end { IfOk result (λ got. IfNone got (IsAtEnd (state self.old))) }
-        ensures ended { IfOk result (λ got. IfNone got (StaysOpen (state self.old) (state self.new))) }
+        ensures ended { IfOk result (λ got.
+            IfNone got (StaysOpen (state self.old) (state self.new))) }
         ensures fault { OnErr result (StaysOpen (state self.old) (state self.new)) }
         ensures later { (state self.old).faults ≤ (state self.new).faults }
         ensures cause { OnErr result (Rose (state self.old).faults (state self.new).faults) };
@@ -41,6 +46,8 @@ pub trait Doors: Drop {
     /// Takes a connection back that was served. It can't fail, and takes no memory.
     fn finish(&mut self, input: Self::In, output: Self::Out)
         requires { 0 < (state self.old).out }
-        ensures takes { TakesBack (state self.old) (connection_of Self.In.left Self.In.faults Self.Out.held Self.Out.faults input output) (state self.new) }
+        ensures takes { TakesBack (state self.old)
+            (connection_of Self.In.left Self.In.faults Self.Out.held Self.Out.faults input output)
+            (state self.new) }
         ensures later { (state self.old).faults ≤ (state self.new).faults };
 }

@@ -30,9 +30,11 @@ impl<I, O> Model for MemDoors<I, O> {
 
     ghost Value = { MemDoorsView I O };
 
-    ghost view = { λ d. record { coming = d.coming.items; finished = d.finished.items; out = d.out; plan = d.plan } };
+    ghost view = { λ d. record { coming = d.coming.items; finished = d.finished.items; out = d.out;
+        plan = d.plan } };
 
-    ghost invariant = { λ d. length d.coming.items + d.out + vec_len d.finished ≤ vec_capacity d.finished };
+    ghost invariant = { λ d. length d.coming.items + d.out + vec_len d.finished
+        ≤ vec_capacity d.finished };
 }
 
 impl<I: Source, O: Sink> MemDoors<I, O> {
@@ -42,7 +44,9 @@ impl<I: Source, O: Sink> MemDoors<I, O> {
         connections: Vec<(I, O)>,
         fails: &[u64],
     ) -> Result<MemDoors<I, O>, AllocError>
-        ensures { IfOk result (λ doors. doors ≡ record { coming = connections.items; finished = []; out = 0; plan = record { fails = fails.now; calls = 0; faults = 0 } }) }
+        ensures { IfOk result (λ doors.
+            doors ≡ record { coming = connections.items; finished = []; out = 0;
+            plan = record { fails = fails.now; calls = 0; faults = 0 } }) }
     {
         let finished = Vec::with_capacity(alloc, connections.len())?;
         let plan = Plan::new(alloc, fails)?;
@@ -70,10 +74,19 @@ impl<I: Source, O: Sink> Doors for MemDoors<I, O> {
     ghost state = { mem_state I.left I.faults O.held O.faults };
 
     fn next_connection(&mut self) -> Result<Option<(I, O)>, DoorFault>
-        ensures gives { IfOk result (λ got. IfSome got (λ connection. Gives (mem_state I.left I.faults O.held O.faults self.old) (connection_of I.left I.faults O.held O.faults connection.0 connection.1) (mem_state I.left I.faults O.held O.faults self.new))) }
-        ensures end { IfOk result (λ got. IfNone got (IsAtEnd (mem_state I.left I.faults O.held O.faults self.old))) }
-        ensures ended { IfOk result (λ got. IfNone got (StaysOpen (mem_state I.left I.faults O.held O.faults self.old) (mem_state I.left I.faults O.held O.faults self.new))) }
-        ensures fault { OnErr result (StaysOpen (mem_state I.left I.faults O.held O.faults self.old) (mem_state I.left I.faults O.held O.faults self.new)) }
+        ensures gives { IfOk result (λ got.
+            IfSome got (λ connection.
+            Gives (mem_state I.left I.faults O.held O.faults self.old)
+            (connection_of I.left I.faults O.held O.faults connection.0 connection.1)
+            (mem_state I.left I.faults O.held O.faults self.new))) }
+        ensures end { IfOk result (λ got.
+            IfNone got (IsAtEnd (mem_state I.left I.faults O.held O.faults self.old))) }
+        ensures ended { IfOk result (λ got.
+            IfNone got (StaysOpen (mem_state I.left I.faults O.held O.faults self.old)
+            (mem_state I.left I.faults O.held O.faults self.new))) }
+        ensures fault { OnErr result
+            (StaysOpen (mem_state I.left I.faults O.held O.faults self.old)
+            (mem_state I.left I.faults O.held O.faults self.new)) }
         ensures later { self.old.plan.faults ≤ self.new.plan.faults }
         ensures cause { OnErr result (Rose self.old.plan.faults self.new.plan.faults) }
         ensures planned { OnErr result (fails_next self.old.plan ≡ true) }
@@ -96,7 +109,9 @@ impl<I: Source, O: Sink> Doors for MemDoors<I, O> {
 
     fn finish(&mut self, input: I, output: O)
         requires { 0 < self.old.out }
-        ensures takes { TakesBack (mem_state I.left I.faults O.held O.faults self.old) (connection_of I.left I.faults O.held O.faults input output) (mem_state I.left I.faults O.held O.faults self.new) }
+        ensures takes { TakesBack (mem_state I.left I.faults O.held O.faults self.old)
+            (connection_of I.left I.faults O.held O.faults input output)
+            (mem_state I.left I.faults O.held O.faults self.new) }
         ensures later { self.old.plan.faults ≤ self.new.plan.faults }
         ensures kept { self.new.finished ≡ self.old.finished ++ (input, output) ∷ [] }
         ensures plan { self.new.plan ≡ self.old.plan }

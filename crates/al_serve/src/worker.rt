@@ -54,7 +54,8 @@ pub fn work<R: Wait, T: Kept, N: Doors, V: Service<T>, K: Clock>(
     worker: &mut Worker<T, N, V, K>,
 )
     requires { IsReady turnstile.now (work_of N.state K.readings worker.old) }
-    ensures worked { HasWorked (V.answers worker.old.service) (work_of N.state K.readings worker.old) (work_of N.state K.readings worker.new) }
+    ensures worked { HasWorked (V.answers worker.old.service)
+        (work_of N.state K.readings worker.old) (work_of N.state K.readings worker.new) }
     ensures same { worker.new.service ≡ worker.old.service }
 {
     let pass = worker.pass.take().unwrap();
@@ -85,7 +86,8 @@ pub fn work_all<
 where
     N::In: Send,
     N::Out: Send,
-    requires { All (λ (w : Worker T N V K). IsReady turnstile.now (work_of N.state K.readings w)) workers.old }
+    requires { All (λ (w : Worker T N V K). IsReady turnstile.now (work_of N.state K.readings w))
+        workers.old }
     ensures worked { AllWork V.answers N.state K.readings workers.old workers.new }
 {
     let threads = workers.len().max(1);
@@ -110,8 +112,10 @@ fn serve<T: Kept, U: Turns<T>, N: Doors, V: Service<T>, K: Clock>(
     requires idle { U.taken turns.old ≡ false }
     requires own { U.may_add turns.old origin ≡ true }
     requires left { HasTurns (U.left turns.old) (request_limit * number) }
-    ensures serves { Serves (V.answers service.old) (U.may_add turns.old) origin (U.seen turns.old) (U.seen turns.new)
-        (N.state door.old) (N.state door.new) (K.readings clock.old) (K.readings clock.new) number result.served result.added result.faulted }
+    ensures serves { Serves (V.answers service.old) (U.may_add turns.old) origin (U.seen turns.old)
+        (U.seen turns.new)
+        (N.state door.old) (N.state door.new) (K.readings clock.old) (K.readings clock.new) number
+            result.served result.added result.faulted }
     ensures idle { U.taken turns.new ≡ false }
     ensures counted { 0 < result.added → IsCounted (U.seen turns.new) }
     ensures identity { U.identity turns.new ≡ U.identity turns.old }

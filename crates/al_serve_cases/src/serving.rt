@@ -56,7 +56,8 @@ fn both<N: Doors>(
     requires first { IsReady turnstile.now (work_of N.state (λ c. Some c) first) }
     requires second { IsReady turnstile.now (work_of N.state (λ c. Some c) second) }
     ensures len { IfOk result (λ workers. vec_len workers ≡ 2) }
-    ensures ready { IfOk result (λ workers. All (λ w. IsReady turnstile.now (work_of N.state (λ c. Some c) w)) workers.items) }
+    ensures ready { IfOk result (λ workers.
+        All (λ w. IsReady turnstile.now (work_of N.state (λ c. Some c) w)) workers.items) }
 {
     let mut workers = Vec::new(alloc);
     workers.push(first)?;

@@ -33,7 +33,8 @@ impl Tally {
 
     /// Adds an entry of the origin, or there was no memory.
     fn add(&mut self, origin: u16, time: Stamp) -> Result<(), AllocError>
-        ensures adds { Adds origin (mark_of self.old.entries.items) (mark_of self.new.entries.items) }
+        ensures adds { Adds origin (mark_of self.old.entries.items)
+            (mark_of self.new.entries.items) }
         ensures err { OnErr result (self.new.entries.items ≡ self.old.entries.items) }
     {
         let event = Event::SetMax(None);

@@ -56,7 +56,8 @@ pub(crate) fn all_passes<T: Kept>(
     count: usize,
     mut passes: VecDeque<Pass<T>>,
 ) -> VecDeque<Pass<T>>
-    requires first { (first.table ≡ turnstile.now.table) × (first.view ≡ first_view turnstile.now.start) }
+    requires first { (first.table ≡ turnstile.now.table)
+        × (first.view ≡ first_view turnstile.now.start) }
     requires few { (0 < count) × (count < 65536) }
     requires room { (passes.items ≡ []) × (count ≤ deque_capacity passes) }
     ensures all { ArePasses turnstile.now count result.items }
@@ -86,9 +87,11 @@ pub(crate) fn hire<T: Kept, N: Doors, K: Clock>(
     requires clocks { deque_len clocks ≡ deque_len passes.old }
     requires framers { vec_len framers ≡ deque_len passes.old }
     requires room { (workers.items ≡ []) × (deque_len passes.old ≤ vec_capacity workers) }
-    ensures hired { AreHired connections passes.old.items (map N.state doors.old.items) (map K.readings clocks.items) (map (work_of N.state K.readings) result.items) }
+    ensures hired { AreHired connections passes.old.items (map N.state doors.old.items)
+        (map K.readings clocks.items) (map (work_of N.state K.readings) result.items) }
     ensures len { vec_len result ≡ deque_len passes.old }
-    ensures passes { (passes.new.items ≡ []) × (deque_capacity passes.new ≡ deque_capacity passes.old) }
+    ensures passes { (passes.new.items ≡ [])
+        × (deque_capacity passes.new ≡ deque_capacity passes.old) }
     ensures doors { (doors.new.items ≡ []) × (deque_capacity doors.new ≡ deque_capacity doors.old) }
 {
     let mut origin = 0;
@@ -121,7 +124,8 @@ pub(crate) fn dismiss<T: Kept, N: Doors, V: Drop, K: Clock>(
     requires few { served_of (map (work_of N.state K.readings) workers.items) < 2 ^ 64 }
     requires passes { (passes.old.items ≡ []) × (vec_len workers ≤ deque_capacity passes.old) }
     requires doors { (doors.old.items ≡ []) × (vec_len workers ≤ deque_capacity doors.old) }
-    ensures { AreDismissed (map (work_of N.state K.readings) workers.items) passes.new.items (map N.state doors.new.items) result.connections result.faulted }
+    ensures { AreDismissed (map (work_of N.state K.readings) workers.items) passes.new.items
+        (map N.state doors.new.items) result.connections result.faulted }
 {
     let mut workers = VecDeque::from_vec(workers);
     let mut connections = 0;

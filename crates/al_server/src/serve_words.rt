@@ -58,8 +58,11 @@ fn of_five(
     workers: &[u8],
     connections: &[u8],
 ) -> Option<ServeWords>
-    ensures asked { AskToServe (name.now ∷ journal.now ∷ address.now ∷ workers.now ∷ connections.now ∷ []) result }
-    ensures one { IfSome result (λ serve. IsOneServe (name.now ∷ journal.now ∷ address.now ∷ workers.now ∷ connections.now ∷ []) serve) }
+    ensures asked { AskToServe (name.now ∷ journal.now ∷ address.now ∷ workers.now ∷ connections.now
+        ∷ []) result }
+    ensures one { IfSome result (λ serve.
+        IsOneServe (name.now ∷ journal.now ∷ address.now ∷ workers.now ∷ connections.now ∷ [])
+        serve) }
 {
     if name != b"serve".as_slice() || !is_journal(journal) {
         return None;

@@ -58,15 +58,25 @@ pub fn run_serve<
 where
     N::In: Send,
     N::Out: Send,
-    requires doors { (serve : ServeWords) → IsServe words.now serve → vec_len doors ≡ serve.workers }
-    requires clocks { (serve : ServeWords) → IsServe words.now serve → vec_len clocks ≡ serve.workers }
-    ensures usage { IsNoServe words.now → Tells usage_line status_bad_words (O.held sink.old) (O.held sink.new) result.0 × (result.1 ≡ disk) × (result.2 ≡ doors) }
+    requires doors { (serve : ServeWords) → IsServe words.now serve
+        → vec_len doors ≡ serve.workers }
+    requires clocks { (serve : ServeWords) → IsServe words.now serve
+        → vec_len clocks ≡ serve.workers }
+    ensures usage { IsNoServe words.now
+        → Tells usage_line status_bad_words (O.held sink.old) (O.held sink.new) result.0
+        × (result.1 ≡ disk) × (result.2 ≡ doors) }
     ensures serve { (serve : ServeWords) → IsServe words.now serve →
-        (HasNotServed (record { old_disk = D.told disk; new_disk = D.told result.1; old_faults = D.faults disk; new_faults = D.faults result.1 }) (O.held sink.old) (O.held sink.new) result.0 × (result.2 ≡ doors))
-        ⊎ HasServed serve.connections (record { old_doors = map N.state doors.items; new_doors = map N.state result.2.items; clocks = map K.readings clocks.items })
-        (record { old_disk = D.told disk; new_disk = D.told result.1; old_faults = D.faults disk; new_faults = D.faults result.1 }) (O.held sink.old) (O.held sink.new) result.0 }
-    ensures write_fault { result.0 ≡ status_write_fault → Rose (O.faults sink.old) (O.faults sink.new) }
-    ensures door_fault { result.0 ≡ status_door_fault → OneRose (map N.state doors.items) (map N.state result.2.items) }
+        (HasNotServed (record { old_disk = D.told disk; new_disk = D.told result.1;
+            old_faults = D.faults disk; new_faults = D.faults result.1 }) (O.held sink.old)
+            (O.held sink.new) result.0 × (result.2 ≡ doors))
+        ⊎ HasServed serve.connections (record { old_doors = map N.state doors.items;
+            new_doors = map N.state result.2.items; clocks = map K.readings clocks.items })
+        (record { old_disk = D.told disk; new_disk = D.told result.1; old_faults = D.faults disk;
+            new_faults = D.faults result.1 }) (O.held sink.old) (O.held sink.new) result.0 }
+    ensures write_fault { result.0 ≡ status_write_fault
+        → Rose (O.faults sink.old) (O.faults sink.new) }
+    ensures door_fault { result.0 ≡ status_door_fault
+        → OneRose (map N.state doors.items) (map N.state result.2.items) }
     ensures later_sink { O.faults sink.old ≤ O.faults sink.new }
     ensures later_disk { D.faults disk ≤ D.faults result.1 }
 {
@@ -111,8 +121,12 @@ where
     requires clocks { vec_len clocks ≡ vec_len doors }
     requires room { IsRoom (vec_len doors) room }
     requires connections { connections ≤ 1000000 }
-    ensures ok { IfOk result (λ shift. EndsShift connections (record { old_doors = map N.state doors.items; new_doors = map N.state shift.doors.items; clocks = map K.readings clocks.items })
-        (journaled_mark (D.faults office.journal.disk) office) (journaled_mark (D.faults shift.office.journal.disk) shift.office) shift.served.connections shift.served.faulted) }
+    ensures ok { IfOk result (λ shift.
+        EndsShift connections (record { old_doors = map N.state doors.items;
+        new_doors = map N.state shift.doors.items; clocks = map K.readings clocks.items })
+        (journaled_mark (D.faults office.journal.disk) office)
+            (journaled_mark (D.faults shift.office.journal.disk) shift.office)
+            shift.served.connections shift.served.faulted) }
     ensures err { IfErr result (λ back. (back.0 ≡ office) × (back.1 ≡ doors)) }
 {
     let Room {
@@ -152,10 +166,12 @@ fn conclude<D: Disk, N: Doors, O: Sink>(
     shift: Shift<D, N>,
 ) -> (u8, D, Vec<N>)
     requires { before ≤ length shift.office.entries }
-    ensures told { Tells (served_line shift.served.connections (length shift.office.entries - before)) (status_by shift.served.faulted) (O.held sink.old) (O.held sink.new) result.0 }
+    ensures told { Tells (served_line shift.served.connections (length shift.office.entries
+        - before)) (status_by shift.served.faulted) (O.held sink.old) (O.held sink.new) result.0 }
     ensures disk { result.1 ≡ shift.office.journal.disk }
     ensures doors { result.2 ≡ shift.doors }
-    ensures write_fault { result.0 ≡ status_write_fault → Rose (O.faults sink.old) (O.faults sink.new) }
+    ensures write_fault { result.0 ≡ status_write_fault
+        → Rose (O.faults sink.old) (O.faults sink.new) }
     ensures later { O.faults sink.old ≤ O.faults sink.new }
 {
     let Shift {
@@ -178,7 +194,8 @@ fn status_by(failed: bool) -> u8
 
 /// Tells what was served. The status is the given one, or that of a fault of the sink.
 fn tell_served<O: Sink>(sink: &mut O, connections: u64, entries: u64, done: u8) -> u8
-    ensures told { Tells (served_line connections entries) done (O.held sink.old) (O.held sink.new) result }
+    ensures told { Tells (served_line connections entries) done (O.held sink.old) (O.held sink.new)
+        result }
     ensures write_fault { result ≢ done → Rose (O.faults sink.old) (O.faults sink.new) }
     ensures later { O.faults sink.old ≤ O.faults sink.new }
 {
@@ -189,8 +206,10 @@ fn tell_served<O: Sink>(sink: &mut O, connections: u64, entries: u64, done: u8) 
 }
 
 fn write_served<O: Sink>(sink: &mut O, connections: u64, entries: u64) -> Result<(), WriteFault>
-    ensures ok { OnOk result (Appends (O.held sink.old) (O.held sink.new) (served_line connections entries)) }
-    ensures fault { OnErr result (AppendsFront (O.held sink.old) (O.held sink.new) (served_line connections entries)) }
+    ensures ok { OnOk result (Appends (O.held sink.old) (O.held sink.new)
+        (served_line connections entries)) }
+    ensures fault { OnErr result
+        (AppendsFront (O.held sink.old) (O.held sink.new) (served_line connections entries)) }
     ensures later { O.faults sink.old ≤ O.faults sink.new }
     ensures cause { OnErr result (Rose (O.faults sink.old) (O.faults sink.new)) }
 {

@@ -1,4 +1,5 @@
 pub mod Exact
+pub mod Limits
 pub mod Places
 pub mod Same
 pub mod Takes

@@ -24,10 +24,12 @@ pub fn takings_are_decided()
 
 /// The first shelf that takes a key stands where the relation says, and is the one that the function finds.
 pub fn first_shelves_are_found()
-    ensures place { (i : InventoryView) → IsSound i.identities i.rows → (key : AlarmKey) (shelves : List Shelf)
+    ensures place { (i : InventoryView) → IsSound i.identities i.rows
+        → (key : AlarmKey) (shelves : List Shelf)
         → IsFirstShelf i key shelves (position (takes i key) shelves) }
     ensures shelf { (i : InventoryView) (key : AlarmKey) (shelves : List Shelf)
-        → first_shelf i key shelves ≡ option_and_then (slice_get shelves) (position (takes i key) shelves) }
+        → first_shelf i key shelves
+            ≡ option_and_then (slice_get shelves) (position (takes i key) shelves) }
 {}
 
 /// The position of a spot is one among the shelves of other names, or right behind them.
@@ -39,13 +41,15 @@ pub fn spots_stand_among_others()
 /// A shelf that is put among those of other names, where there are less than 64, leaves distinct names.
 pub fn put_shelves_are_sound()
     ensures { (shelf : Shelf) (shelves : List Shelf) (place : ℕ) → AreShelves shelves
-        → place ≤ length (without shelf.name shelves) → length (without shelf.name shelves) < most_shelves
+        → place ≤ length (without shelf.name shelves)
+            → length (without shelf.name shelves) < most_shelves
         → AreShelves (insert (without shelf.name shelves) place shelf) }
 {}
 
 /// The shelves of other names are distinct and few, too.
 pub fn other_shelves_are_sound()
-    ensures { (name : List ℕ) (shelves : List Shelf) → AreShelves shelves → AreShelves (without name shelves) }
+    ensures { (name : List ℕ) (shelves : List Shelf) → AreShelves shelves
+        → AreShelves (without name shelves) }
 {}
 
 /// Two values are the same exactly where they are one.

@@ -9,5 +9,5 @@ pub mod spot;
 
 pub use fault::ShelfFault;
 pub use shelf::{Shelf, TypeMatch};
-pub use shelves::{MAX_SHELVES, Shelves};
+pub use shelves::Shelves;
 pub use spot::{Placed, Spot};

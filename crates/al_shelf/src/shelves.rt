@@ -7,14 +7,12 @@ ghost use Rattle.al_shelf.specs.Places.{placed};
 use crate::fault::ShelfFault;
 use crate::shelf::Shelf;
 use crate::spot::{Placed, Spot};
+use al_base::limits::MOST_SHELVES;
 use al_base::{Copied, Text};
 use al_ids::AlarmKey;
 use al_types::Inventory;
 use std::alloc::{AllocError, Global};
 use std::marker::Model;
-
-/// The most shelves that there are.
-pub const MAX_SHELVES: usize = 64;
 
 /// The shelves in their order (RFC 8632, container `alarm-shelving`), and for how many more memory is at hand.
 #[derive(Debug, Drop)]
@@ -28,7 +26,8 @@ impl Model for Shelves {
 
     ghost Value = { ShelvesView };
 
-    ghost view = { λ s. record { shelves = s.shelves.items; spare = vec_capacity s.shelves - vec_len s.shelves } };
+    ghost view = { λ s. record { shelves = s.shelves.items;
+        spare = vec_capacity s.shelves - vec_len s.shelves } };
 
     ghost invariant = { λ s. AreShelves s.shelves.items };
 }
@@ -72,7 +71,8 @@ impl Shelves {
     pub fn first(&self, inv: &Inventory, key: &AlarmKey) -> Option<usize>
         ensures relation { IsFirstShelf inv.now key.now self.now.shelves result }
         ensures position { result ≡ position (takes inv.now key.now) self.now.shelves }
-        ensures shelf { first_shelf inv.now key.now self.now.shelves ≡ option_and_then (slice_get self.now.shelves) result }
+        ensures shelf { first_shelf inv.now key.now self.now.shelves
+            ≡ option_and_then (slice_get self.now.shelves) result }
     {
         for (n, shelf) in self.shelves.iter().enumerate() {
             if shelf.takes(inv, key) {
@@ -95,7 +95,8 @@ impl Shelves {
     /// one of these.
     pub fn place_for(&self, spot: &Spot, name: &Text) -> Option<usize>
         ensures place { result ≡ place_for spot.now name.now self.now.shelves }
-        ensures within { IfSome result (λ place. place ≤ length (without name.now self.now.shelves)) }
+        ensures within { IfSome result (λ place.
+            place ≤ length (without name.now self.now.shelves)) }
     {
         match spot {
             Spot::First => Some(0),
@@ -122,7 +123,8 @@ impl Shelves {
         requires few { length (without shelf.name self.old.shelves) < most_shelves }
         requires within { at ≤ length (without shelf.name self.old.shelves) }
         ensures shelves { self.new.shelves ≡ insert (without shelf.name self.old.shelves) at shelf }
-        ensures room { self.new.spare + length self.new.shelves ≡ self.old.spare + length self.old.shelves }
+        ensures room { self.new.spare + length self.new.shelves
+            ≡ self.old.spare + length self.old.shelves }
     {
         let _ = self.remove(&shelf.name);
         // There is room for it, so no memory is taken.
@@ -131,8 +133,10 @@ impl Shelves {
 
     /// Puts the shelf at its spot, in place of the one that has its name.
     pub fn place(&mut self, shelf: Shelf, spot: Spot) -> Result<Placed, ShelfFault>
-        ensures ok { IfOk result (λ placed. IsPut self.old.shelves shelf spot placed self.new.shelves) }
-        ensures no_point { (result ≡ Err ShelfFault.NoPoint) ↔ (place_for spot shelf.name self.old.shelves ≡ None) }
+        ensures ok { IfOk result (λ placed.
+            IsPut self.old.shelves shelf spot placed self.new.shelves) }
+        ensures no_point { (result ≡ Err ShelfFault.NoPoint)
+            ↔ (place_for spot shelf.name self.old.shelves ≡ None) }
         ensures too_many { (result ≡ Err ShelfFault.TooMany)
             ↔ (IsSome (place_for spot shelf.name self.old.shelves)
             × (most_shelves < length (without shelf.name self.old.shelves) + 1)) }
@@ -150,14 +154,15 @@ impl Shelves {
     /// Makes room for a shelf of this name, where none has it.
     fn make_room(&mut self, name: &Text) -> Result<(), ShelfFault>
         ensures shelves { self.new.shelves ≡ self.old.shelves }
-        ensures room { OnOk result ((0 < self.new.spare) ⊎ IsSome (place_of name.now self.old.shelves)) }
+        ensures room { OnOk result ((0 < self.new.spare)
+            ⊎ IsSome (place_of name.now self.old.shelves)) }
         ensures few { OnOk result (length (without name.now self.old.shelves) < most_shelves) }
         ensures too_many { (result ≡ Err ShelfFault.TooMany)
             ↔ (most_shelves < length (without name.now self.old.shelves) + 1) }
         ensures no_point { result ≢ Err ShelfFault.NoPoint }
         ensures refused { OnErr result (self.new ≡ self.old) }
     {
-        if self.count_of_others(name) >= MAX_SHELVES {
+        if self.count_of_others(name) >= MOST_SHELVES {
             return Err(ShelfFault::TooMany);
         }
         if self.place_of(name).is_some() {
@@ -174,7 +179,8 @@ impl Shelves {
         ensures answer { result ≡ shelf_of name.now self.old.shelves }
         ensures none { (result ≡ None) ↔ All (λ shelf. shelf.name ≢ name.now) self.old.shelves }
         ensures shelves { self.new.shelves ≡ without name.now self.old.shelves }
-        ensures room { self.new.spare + length self.new.shelves ≡ self.old.spare + length self.old.shelves }
+        ensures room { self.new.spare + length self.new.shelves
+            ≡ self.old.spare + length self.old.shelves }
     {
         let Some(place) = self.place_of(name) else {
             return None;

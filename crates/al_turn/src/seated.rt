@@ -34,7 +34,8 @@ impl<'a, T: Kept, R> Model for Seated<'a, T, R> {
 
     ghost view = { λ s. record { table = s.seat.table_id; view = s.seat.me.0 } };
 
-    ghost invariant = { λ s. (s.seat.table_id ≡ s.turnstile.now.table) × IsSeated s.seat.me s.before };
+    ghost invariant = { λ s. (s.seat.table_id ≡ s.turnstile.now.table)
+        × IsSeated s.seat.me s.before };
 }
 
 impl<'a, T: Kept, R> Seated<'a, T, R> {

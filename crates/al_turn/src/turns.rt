@@ -27,8 +27,11 @@ pub trait Turns<T: Kept> {
         requires idle { taken self.old ≡ false }
         requires turn { HasTurn (left self.old) }
         ensures goes_on { GoesOn (seen self.old) (T.mark result) }
-        ensures others { MadeByOthers (may_add self.old) (further (T.mark result).entries (seen self.old).entries) }
-        ensures own { (origin : ℕ) → may_add self.old origin ≡ true → entries_of (T.mark result).entries origin (identity self.old).base ≡ entries_of (seen self.old).entries origin (identity self.old).base }
+        ensures others { MadeByOthers (may_add self.old)
+            (further (T.mark result).entries (seen self.old).entries) }
+        ensures own { (origin : ℕ) → may_add self.old origin ≡ true
+            → entries_of (T.mark result).entries origin (identity self.old).base
+            ≡ entries_of (seen self.old).entries origin (identity self.old).base }
         ensures taken { taken self.new ≡ true }
         ensures seen { seen self.new ≡ T.mark result }
         ensures since { (identity self.new).base ≤ length (seen self.new).entries }
@@ -40,7 +43,8 @@ pub trait Turns<T: Kept> {
     fn put(&mut self, value: T)
         requires taken { taken self.old ≡ true }
         requires goes_on { GoesOn (seen self.old) (T.mark value) }
-        requires own { MadeBy (may_add self.old) (further (T.mark value).entries (seen self.old).entries) }
+        requires own { MadeBy (may_add self.old)
+            (further (T.mark value).entries (seen self.old).entries) }
         ensures idle { taken self.new ≡ false }
         ensures seen { seen self.new ≡ T.mark value }
         ensures since { (identity self.new).base ≤ length (seen self.new).entries }

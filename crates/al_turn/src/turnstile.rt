@@ -53,9 +53,11 @@ impl<T: Kept> Model for Turnstile<T> {
 
     ghost coded = { Prim.hlevel (codes, a_view.the_row.coded) };
 
-    ghost view = { λ t. record { table = t.table.shared.table_id; start = T.mark t.table.shared.key.value } };
+    ghost view = { λ t. record { table = t.table.shared.table_id;
+        start = T.mark t.table.shared.key.value } };
 
-    ghost invariant = { λ t. (t.table.shared.table_id.words ≡ 3) × (t.table.shared.table_id.slots ≡ 1) };
+    ghost invariant = { λ t. (t.table.shared.table_id.words ≡ 3)
+        × (t.table.shared.table_id.slots ≡ 1) };
 }
 
 impl<T: Kept> Turnstile<T> {
@@ -64,7 +66,8 @@ impl<T: Kept> Turnstile<T> {
     /// # Errors
     /// There was no memory: the value comes back.
     pub fn new(alloc: Global, value: T) -> Result<(Turnstile<T>, Pass<T>), (T, AllocError)>
-        ensures ok { IfOk result (λ made. (made.0.start ≡ T.mark value) × (made.1.table ≡ made.0.table) × (made.1.view ≡ first_view (T.mark value))) }
+        ensures ok { IfOk result (λ made. (made.0.start ≡ T.mark value)
+            × (made.1.table ≡ made.0.table) × (made.1.view ≡ first_view (T.mark value))) }
         ensures err { IfErr result (λ refused. refused.0 ≡ value) }
     {
         let key = Snapshot::of(&value);
@@ -115,7 +118,8 @@ impl<T: Kept> Turnstile<T> {
         requires idle { IsIdle seat.old.me }
         requires turn { 0 < seat.old.me.0.left }
         ensures table { seat.new.table_id ≡ seat.old.table_id }
-        ensures served { (ticket : ℕ) × (seat.new.me ≡ (looked (drew seat.old.me.0 ticket) ticket, [])) }
+        ensures served { (ticket : ℕ)
+            × (seat.new.me ≡ (looked (drew seat.old.me.0 ticket) ticket, [])) }
     {
         let shared = &self.table.shared;
         let ticket = shared.fetch_add::<Draws>(seat, TICKET, 1);
@@ -134,7 +138,9 @@ impl<T: Kept> Turnstile<T> {
         requires idle { IsIdle seat.old.me }
         requires turn { 0 < seat.old.me.0.left }
         ensures table { seat.new.table_id ≡ seat.old.table_id }
-        ensures seat { (ticket : ℕ) × (seat.new.me ≡ (fetched (drew seat.old.me.0 ticket) (T.mark result.0), (0, None) ∷ [])) }
+        ensures seat { (ticket : ℕ)
+            × (seat.new.me ≡ (fetched (drew seat.old.me.0 ticket) (T.mark result.0),
+            (0, None) ∷ [])) }
         ensures length { result.1 ≡ length (T.mark result.0).entries }
         ensures found { Found seat.old.me.0 (T.mark result.0) }
     {
@@ -148,10 +154,13 @@ impl<T: Kept> Turnstile<T> {
     /// Puts the value back, which has grown from a history of the length `before`, and ends the turn.
     pub(crate) fn put(&self, seat: &mut Seat<Option<T>, View>, before: u64, value: T)
         requires table { seat.old.table_id ≡ self.now.table }
-        requires out { (0 < seat.old.me.0.number) × (rank seat.old.me.0.stage ≡ 3) × (seat.old.me.1 ≡ (0, None) ∷ []) }
+        requires out { (0 < seat.old.me.0.number) × (rank seat.old.me.0.stage ≡ 3)
+            × (seat.old.me.1 ≡ (0, None) ∷ []) }
         requires before { before ≡ length seat.old.me.0.seen.entries }
         requires goes_on { GoesOn seat.old.me.0.seen (T.mark value) }
-        requires own { MadeBy (λ origin. origin == seat.old.me.0.number) (further (T.mark value).entries seat.old.me.0.seen.entries) }
+        requires own { MadeBy (λ origin.
+            origin == seat.old.me.0.number)
+            (further (T.mark value).entries seat.old.me.0.seen.entries) }
         ensures table { seat.new.table_id ≡ seat.old.table_id }
         ensures seat { seat.new.me ≡ (ended (counted seat.old.me.0 (T.mark value)), []) }
     {

@@ -31,7 +31,8 @@ impl Tally {
     /// Adds the entry of the origin's turn of that number.
     pub fn add(&mut self, origin: u16, turn: u64) -> Result<(), AllocError>
         ensures grows { GoesOn (mark_of self.old.entries.items) (mark_of self.new.entries.items) }
-        ensures own { (origins : ℕ → Bool) → origins origin ≡ true → MadeBy origins (further self.new.entries.items self.old.entries.items) }
+        ensures own { (origins : ℕ → Bool) → origins origin ≡ true
+            → MadeBy origins (further self.new.entries.items self.old.entries.items) }
     {
         let time = Stamp::of(turn).unwrap_or(Stamp::LAST);
         let event = Event::SetMax(None);

@@ -20,7 +20,8 @@ fn turn<U: Turns<Tally>>(turns: &mut U, origin: u16, done: u64) -> bool
     requires few { done < 1000 }
     ensures idle { U.taken turns.new ≡ false }
     ensures left { U.left turns.new ≡ one_less (U.left turns.old) }
-    ensures same { (U.may_add turns.new ≡ U.may_add turns.old) × (U.identity turns.new ≡ U.identity turns.old) }
+    ensures same { (U.may_add turns.new ≡ U.may_add turns.old)
+        × (U.identity turns.new ≡ U.identity turns.old) }
 {
     let mut tally = turns.take();
     let is_shown = tally.newest(origin) == done;

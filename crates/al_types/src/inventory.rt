@@ -5,12 +5,10 @@ use crate::fault::InventoryFault;
 use crate::place::{Place, find_bases, place_before};
 use crate::repeats::{duplicate_identity, duplicate_row};
 use crate::row::{Identity, Row};
+use al_base::limits::{MOST_IDENTITIES, MOST_ROWS};
 use al_base::{Copied, List, Text, TypeId};
 use std::alloc::{AllocError, Global};
 use std::marker::Model;
-
-/// The most identities, and the most rows, of an inventory.
-pub const MAX_DECLARED: usize = 2000;
 
 /// The declared alarm types, each after its base, and what alarms there may be of them (RFC 8632, section 4.2).
 #[derive(Debug, Drop)]
@@ -45,7 +43,7 @@ impl Inventory {
     ) -> Result<Inventory, InventoryFault>
         ensures { IsBuilt identities.items rows.items result }
     {
-        if identities.len() > MAX_DECLARED || rows.len() > MAX_DECLARED {
+        if identities.len() > MOST_IDENTITIES || rows.len() > MOST_ROWS {
             return Err(InventoryFault::TooMany);
         }
         if let Some(n) = duplicate_identity(identities.as_slice()) {
@@ -93,7 +91,8 @@ impl Inventory {
     pub fn row(&self, t: &TypeId, qualifier: &Text) -> Option<&Row>
         ensures value { option_copied result ≡ row_of self.now t.now qualifier.now }
         ensures found { IfSome result (λ row. IsOnlyRow self.now t.now qualifier.now row.now) }
-        ensures none { (result ≡ None) ↔ ((row : Row) → ¬ (IsRowOf self.now t.now qualifier.now row)) }
+        ensures none { (result ≡ None)
+            ↔ ((row : Row) → ¬ (IsRowOf self.now t.now qualifier.now row)) }
     {
         find_row(self.rows(), t, qualifier)
     }
@@ -113,7 +112,8 @@ impl Inventory {
     }
 
     fn place(&self, name: &TypeId) -> Option<Place>
-        ensures place { IsPlaceBefore self.now.identities (length self.now.identities) name.now result }
+        ensures place { IsPlaceBefore self.now.identities (length self.now.identities) name.now
+            result }
         ensures sound { IsSound self.now.identities self.now.rows }
     {
         let identities = self.identities.as_slice();

@@ -12,18 +12,24 @@ ghost use Rattle.std.specs.Prelude.{◌≡◌, ◌↔◌, ℕ, List, None, Some}
 
 /// In an inventory that `build` accepts a type derives from a base exactly where the test says so.
 pub fn heirs_derive()
-    ensures { (i : InventoryView) → IsSound i.identities i.rows → (type_id base : List ℕ) → Decides (derives_from i type_id base) (DerivesFrom i type_id base) }
+    ensures { (i : InventoryView) → IsSound i.identities i.rows → (type_id base : List ℕ)
+        → Decides (derives_from i type_id base) (DerivesFrom i type_id base) }
 {}
 
 /// The row of a type and qualifier is the only one, where `build` accepts the inventory; there is none exactly where no row is of them.
 pub fn rows_are_found()
-    ensures found { (i : InventoryView) → IsSound i.identities i.rows → (type_id qualifier : List ℕ) (row : Row) → (row_of i type_id qualifier ≡ Some row) ↔ IsOnlyRow i type_id qualifier row }
-    ensures none { (i : InventoryView) (type_id qualifier : List ℕ) → (row_of i type_id qualifier ≡ None) ↔ ((row : Row) → ¬ (IsRowOf i type_id qualifier row)) }
+    ensures found { (i : InventoryView) → IsSound i.identities i.rows
+        → (type_id qualifier : List ℕ) (row : Row) → (row_of i type_id qualifier ≡ Some row)
+        ↔ IsOnlyRow i type_id qualifier row }
+    ensures none { (i : InventoryView) (type_id qualifier : List ℕ)
+        → (row_of i type_id qualifier ≡ None)
+        ↔ ((row : Row) → ¬ (IsRowOf i type_id qualifier row)) }
 {}
 
 /// A row allows a severity exactly where the test says so.
 pub fn severities_are_allowed()
-    ensures { (row : Row) (severity : Severity) → Decides (allows row severity) (Allows row severity) }
+    ensures { (row : Row) (severity : Severity)
+        → Decides (allows row severity) (Allows row severity) }
 {}
 
 /// Two values are the same exactly where they are one.
@@ -35,5 +41,6 @@ pub fn same_is_equal()
 
 /// Lists make an inventory exactly where the test says so.
 pub fn inventories_are_tested()
-    ensures { (identities : List Identity) (rows : List Row) → Decides (is_sound identities rows) (IsSound identities rows) }
+    ensures { (identities : List Identity) (rows : List Row)
+        → Decides (is_sound identities rows) (IsSound identities rows) }
 {}

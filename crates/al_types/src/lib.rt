@@ -9,5 +9,5 @@ mod repeats;
 pub mod row;
 
 pub use fault::InventoryFault;
-pub use inventory::{Inventory, MAX_DECLARED};
+pub use inventory::Inventory;
 pub use row::{Identity, Row};

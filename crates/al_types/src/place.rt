@@ -36,7 +36,8 @@ pub fn place_before(identities: &[Identity], n: usize, name: &TypeId) -> Option<
 
 /// Where the base of each identity stands.
 pub fn find_bases(alloc: Global, identities: &[Identity]) -> Result<Vec<Place>, InventoryFault>
-    ensures bases { IfOk result (λ bases. HasBases identities.now bases.items (length identities.now)) }
+    ensures bases { IfOk result (λ bases.
+        HasBases identities.now bases.items (length identities.now)) }
     ensures fault { IfErr result (λ fault. IsBaseFault identities.now fault) }
 {
     let mut bases = Vec::with_capacity(alloc, identities.len())?;

@@ -33,7 +33,8 @@ impl Row {
     /// Whether the row is that of the alarms of this type and qualifier.
     pub fn is_of(&self, type_id: &TypeId, qualifier: &Text) -> bool
         ensures value { result ≡ is_of type_id.now qualifier.now self.now }
-        ensures exact { IsTrue result ↔ ((self.now.type_id ≡ type_id.now) × (self.now.qualifier ≡ qualifier.now)) }
+        ensures exact { IsTrue result
+            ↔ ((self.now.type_id ≡ type_id.now) × (self.now.qualifier ≡ qualifier.now)) }
     {
         self.type_id == *type_id && self.qualifier == *qualifier
     }

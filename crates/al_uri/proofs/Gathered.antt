@@ -1,11 +1,11 @@
 -- A list that is read from the left, behind what is read so far.
 use Rattle.std.proofs.Common.{◌≡◌, ℕ, Bor, Option, Some, Result, Ok, Err, List, [], ◌∷◌, ◌++◌, refl, append_assoc, append-nil}
 use Rattle.std.specs.Option.{option_copied}
-use Rattle.al_uri.specs.Answers.{and_then, each}
-use Rattle.al_uri.specs.Cuts.{behind, front, pieces_left}
+use Rattle.al_base.specs.Answers.{and_then, each}
+use Rattle.al_base.specs.Cuts.{behind, front, pieces_left}
 use Rattle.al_uri.specs.Escapes.{decoded}
 use Rattle.al_uri.specs.declared.fault.UriFault.{UriFault}
-use Rattle.al_uri.proofs.CutLemmas.{pieces_cut}
+use Rattle.al_base.proofs.CutLemmas.{pieces_cut}
 
 abbrev pub onto : {A E : Type 0} → List A → Result (List A) E → Result (List A) E
 onto so_far later = and_then later (λ more. Ok (so_far ++ more))

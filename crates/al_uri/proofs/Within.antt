@@ -8,12 +8,14 @@ use Rattle.std.proofs.lemmas.Bool.Decides.{nat_tests}
 use Rattle.al_base.proofs.FormTests.{decides_text, decides_type_name}
 use Rattle.al_base.specs.Identifiers.{IsTypeName, is_type_name}
 use Rattle.al_base.specs.Limits.{IsShelfName, IsText, is_text}
-use Rattle.al_uri.specs.Answers.{and_then, or_fault}
-use Rattle.al_uri.specs.Cuts.{behind, front, pieces, pieces_left}
+use Rattle.al_base.specs.Answers.{and_then, or_fault}
+use Rattle.al_base.specs.Cuts.{behind, front, pieces, pieces_left}
 use Rattle.al_uri.specs.Escapes.{decoded}
 use Rattle.al_uri.specs.Faults.{Answers}
 use Rattle.al_uri.specs.Keys.{alarm_key, entered, text_key, type_key}
-use Rattle.al_uri.specs.Limits.{IsKeyWithin, IsSpotWithin, IsTargetWithin}
+use Rattle.al_uri.specs.Limits.{IsTargetWithin}
+use Rattle.al_shelf.specs.Limits.{IsSpotWithin}
+use Rattle.al_ids.specs.Limits.{IsKeyWithin}
 use Rattle.al_uri.specs.Paths.{keys_of, place_at, resource_at, step, walk, walk_rooted}
 use Rattle.al_uri.specs.Queries.{after_part, after_parts, from_value, insert_value, known_at, no_parameters, not_empty, once, parameters_of, point_value, shelf_at, spot_of, with_parameters, with_part}
 use Rattle.al_uri.specs.Resources.{child, is_same, plain_name, way_of, ways}

@@ -1,6 +1,8 @@
 -- Which fault a call may answer.
 use Rattle.std.specs.Prelude.{◌≡◌, ⊤, Result, Err}
-use Rattle.al_uri.specs.Answers.{AnswersBy}
+use Rattle.al_base.specs.Answers.{AnswersBy}
+use Rattle.al_base.specs.declared.form.FormFault.{FormFault}
+use Rattle.al_base.specs.declared.form.FormFault.TheVariants as forms
 use Rattle.al_uri.specs.declared.fault.UriFault.{UriFault}
 use Rattle.al_uri.specs.declared.fault.UriFault.TheVariants.{NoSuchPath, BadEscape, BadKeys, BadQuery, Memory}
 
@@ -15,3 +17,8 @@ IsDue said Memory = ⊤
 -- The answer is what is said, value or fault, or want of memory.
 abbrev pub Answers : {A : Type 0} → Result A UriFault → Result A UriFault → Type 0
 Answers said answer = AnswersBy IsDue said answer
+
+-- the fault of a key that isn't read
+abbrev pub key_fault : FormFault → UriFault
+key_fault forms.Form = BadKeys
+key_fault forms.Memory = Memory

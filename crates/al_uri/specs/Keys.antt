@@ -4,7 +4,7 @@ use Rattle.al_base.specs.Identifiers.{is_type_name}
 use Rattle.al_base.specs.Limits.{is_text, longest_qualifier, longest_resource, longest_shelf_name}
 use Rattle.al_ids.specs.declared.key.AlarmKey.{AlarmKey}
 use Rattle.al_shelf.specs.declared.spot.Spot.TheVariants.{Keep}
-use Rattle.al_uri.specs.Answers.{and_then}
+use Rattle.al_base.specs.Answers.{and_then}
 use Rattle.al_uri.specs.TypeNames.{with_module}
 use Rattle.al_uri.specs.declared.fault.UriFault.{UriFault}
 use Rattle.al_uri.specs.declared.fault.UriFault.TheVariants.{BadKeys}

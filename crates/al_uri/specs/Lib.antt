@@ -1,5 +1,3 @@
-pub mod Answers
-pub mod Cuts
 pub mod Escapes
 pub mod Faults
 pub mod Keys

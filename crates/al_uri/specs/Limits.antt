@@ -7,18 +7,8 @@ use Rattle.al_shelf.specs.declared.spot.Spot.{Spot}
 use Rattle.al_shelf.specs.declared.spot.Spot.TheVariants.{First, Last, Before, After, Keep}
 use Rattle.al_uri.specs.declared.target.Target.{Target}
 use Rattle.al_uri.specs.declared.target.Target.TheVariants.{Shelving, OneShelf, OneAlarm, SetState, OneShelved, NotificationLog, JournalPage}
-
-pub record IsKeyWithin (key : AlarmKey) : Type 0 where
-  pub resource : IsResourceText key.resource
-  pub type_id : IsTypeName key.type_id
-  pub qualifier : IsQualifier key.qualifier
-
-abbrev pub IsSpotWithin : Spot → Type 0
-IsSpotWithin First = ⊤
-IsSpotWithin Last = ⊤
-IsSpotWithin (Before point) = IsShelfName point
-IsSpotWithin (After point) = IsShelfName point
-IsSpotWithin Keep = ⊤
+use Rattle.al_ids.specs.Limits.{IsKeyWithin}
+use Rattle.al_shelf.specs.Limits.{IsSpotWithin}
 
 pub record IsShelfWithin (name : List ℕ) (spot : Spot) : Type 0 where
   pub name_within : IsShelfName name

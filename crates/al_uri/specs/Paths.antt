@@ -1,7 +1,7 @@
 -- Paths: segments, each a name with keys, walked from left to right (RFC 8040, section 3.5.3).
 use Rattle.std.specs.Prelude.{ℕ, Option, Result, Ok, Err, List, [], ◌∷◌}
-use Rattle.al_uri.specs.Answers.{and_then, each, or_fault}
-use Rattle.al_uri.specs.Cuts.{behind, front, pieces, pieces_left}
+use Rattle.al_base.specs.Answers.{and_then, each, or_fault}
+use Rattle.al_base.specs.Cuts.{behind, front, pieces, pieces_left}
 use Rattle.al_uri.specs.Escapes.{decoded}
 use Rattle.al_uri.specs.Keys.{entered}
 use Rattle.al_uri.specs.Resources.{child}

@@ -5,8 +5,8 @@ use Rattle.std.specs.List.{list_all}
 use Rattle.std.specs.Str.Parse.{digits_value}
 use Rattle.al_shelf.specs.declared.spot.Spot.{Spot}
 use Rattle.al_shelf.specs.declared.spot.Spot.TheVariants as spots
-use Rattle.al_uri.specs.Answers.{and_then}
-use Rattle.al_uri.specs.Cuts.{behind, front, pieces_left}
+use Rattle.al_base.specs.Answers.{and_then}
+use Rattle.al_base.specs.Cuts.{behind, front, pieces_left}
 use Rattle.al_uri.specs.Escapes.{decoded}
 use Rattle.al_uri.specs.Paths.{place_at}
 use Rattle.al_uri.specs.Resources.{is_same}

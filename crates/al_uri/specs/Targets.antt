@@ -1,6 +1,6 @@
 -- What a path and a query name.
 use Rattle.std.specs.Prelude.{ℕ, Option, Result, List}
-use Rattle.al_uri.specs.Answers.{and_then}
+use Rattle.al_base.specs.Answers.{and_then}
 use Rattle.al_uri.specs.Paths.{place_at, resource_at}
 use Rattle.al_uri.specs.Queries.{known_at, parameters_of, with_parameters}
 use Rattle.al_uri.specs.declared.fault.UriFault.{UriFault}

@@ -1,3 +1,4 @@
+use al_base::FormFault;
 use std::alloc::{AllocError, AllocFailed};
 use std::error::Error;
 use std::fmt;
@@ -16,6 +17,21 @@ pub enum UriFault {
     BadQuery,
     /// There was no memory for the target.
     Memory,
+}
+
+/// Of texts, keys alone have forms and limits of their own.
+impl From<FormFault> for UriFault {
+    ghost use Rattle.std.specs.Prelude.{◌≡◌};
+    ghost use Rattle.al_uri.specs.Faults.{key_fault};
+
+    ghost from_gives = { λ form fault. fault ≡ key_fault form };
+
+    fn from(fault: FormFault) -> UriFault {
+        match fault {
+            FormFault::Form => UriFault::BadKeys,
+            FormFault::Memory => UriFault::Memory,
+        }
+    }
 }
 
 impl From<AllocError> for UriFault {

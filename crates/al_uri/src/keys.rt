@@ -1,24 +1,26 @@
 //! Keys of shelves and alarms in a path (RFC 8040, section 3.5.3).
 
+ghost use Rattle.al_base.specs.Limits.{longest_resource};
 ghost use Rattle.al_uri.specs.Faults.{Answers};
 ghost use Rattle.al_uri.specs.Keys.{alarm_key, entered, text_key, type_key};
 ghost use Rattle.al_uri.specs.Paths.{keys_of};
 ghost use Rattle.std.specs.Option.{option_copied};
 ghost use Rattle.std.specs.Prelude.{[], ◌∷◌};
 
-use crate::cut::cut;
+use al_base::cut::cut;
 use crate::escape::read_decoded;
 use crate::fault::UriFault;
 use crate::place::{Place, Way};
 use crate::target::Target;
 use crate::type_name::read_type;
-use al_base::{Copied, List, Text, TypeFault, TypeId};
-use al_ids::{AlarmKey, Resource, ResourceFault};
+use al_base::limits::{LONGEST_QUALIFIER, LONGEST_SHELF_NAME};
+use al_base::{List, Text, TypeId, read_text};
+use al_ids::{AlarmKey, Resource, read_resource};
 use al_shelf::Spot;
 use std::alloc::Global;
 
 /// The keys in the text behind a `=`, which are cut at commas and then decoded. Without a `=` there are none.
-#[tactic(auto, unfolding(crate::specs::Paths::keys_of), using(crate::proofs::CutLemmas::pieces_cut, crate::proofs::Gathered::onto_none))]
+#[tactic(auto, unfolding(crate::specs::Paths::keys_of), using(al_base::proofs::CutLemmas::pieces_cut, crate::proofs::Gathered::onto_none))]
 pub fn read_keys(alloc: Global, text: Option<&[u8]>) -> Result<List<Text>, UriFault>
     ensures { Answers (keys_of (option_copied text.entry)) result }
 {
@@ -76,43 +78,30 @@ fn read_key(
     Ok(AlarmKey {
         resource: resource_key(alloc, resource)?,
         type_id: type_key(alloc, type_id)?,
-        qualifier: text_key(alloc, 0, 255, qualifier)?,
+        qualifier: text_key(alloc, 0, LONGEST_QUALIFIER, qualifier)?,
     })
 }
 
-#[tactic(auto, using(crate::proofs::KeyLemmas::empty_key, crate::proofs::KeyLemmas::long_key, crate::proofs::KeyLemmas::resource_key_is))]
+#[tactic(auto, unfolding(crate::specs::Keys::text_key))]
 fn resource_key(alloc: Global, key: &Text) -> Result<Resource, UriFault>
-    ensures { Answers (text_key 1 512 key.now) result }
+    ensures { Answers (text_key 1 longest_resource key.now) result }
 {
-    match Resource::read(alloc, key.bytes()) {
-        Ok(resource) => Ok(resource),
-        Err(ResourceFault::Memory) => Err(UriFault::Memory),
-        Err(ResourceFault::Empty | ResourceFault::TooLong) => Err(UriFault::BadKeys),
-        Err(ResourceFault::NotUtf8) => unreachable!(),
-    }
+    Ok(read_resource(alloc, key.bytes())?)
 }
 
-#[tactic(auto, using(crate::proofs::KeyLemmas::type_key_is, crate::proofs::KeyLemmas::other_type_key))]
+#[tactic(auto, unfolding(crate::specs::Keys::type_key))]
 fn type_key(alloc: Global, key: &Text) -> Result<TypeId, UriFault>
     ensures { Answers (type_key key.now) result }
 {
-    match read_type(alloc, key.bytes()) {
-        Ok(type_id) => Ok(type_id),
-        Err(TypeFault::Memory) => Err(UriFault::Memory),
-        Err(TypeFault::Form) => Err(UriFault::BadKeys),
-    }
+    Ok(read_type(alloc, key.bytes())?)
 }
 
 /// A text of so many bytes.
-#[tactic(auto, using(crate::proofs::KeyLemmas::key_is, crate::proofs::KeyLemmas::short_key, crate::proofs::KeyLemmas::long_key))]
+#[tactic(auto, unfolding(crate::specs::Keys::text_key))]
 fn text_key(alloc: Global, least: usize, most: usize, key: &Text) -> Result<Text, UriFault>
     ensures { Answers (text_key least most key.now) result }
 {
-    let len = key.bytes().len();
-    if len < least || most < len {
-        return Err(UriFault::BadKeys);
-    }
-    Ok(key.copy(alloc)?)
+    Ok(read_text(alloc, least, most, key.bytes())?)
 }
 
 #[tactic(auto, unfolding(crate::specs::Keys::entered))]
@@ -120,7 +109,7 @@ fn one_shelf(alloc: Global, name: &Text) -> Result<Place, UriFault>
     ensures { Answers (entered Way.ToShelf (name.now ∷ [])) result }
 {
     Ok(Place::At(Target::OneShelf {
-        name: text_key(alloc, 1, 64, name)?,
+        name: text_key(alloc, 1, LONGEST_SHELF_NAME, name)?,
         spot: Spot::Keep,
     }))
 }

@@ -1,7 +1,6 @@
 //! What a path and a query of RESTCONF name: the resources of the alarm list, each with its keys.
 #![tactic(auto)]
 
-mod cut;
 mod escape;
 pub mod fault;
 mod keys;

@@ -3,7 +3,7 @@
 ghost use Rattle.al_uri.specs.Faults.{Answers};
 ghost use Rattle.al_uri.specs.Paths.{place_at, step};
 
-use crate::cut::cut;
+use al_base::cut::cut;
 use crate::escape::read_decoded;
 use crate::fault::UriFault;
 use crate::keys::read_keys;
@@ -11,7 +11,7 @@ use crate::place::Place;
 use std::alloc::Global;
 
 /// Where the path leads from the place. Its segments are judged from left to right, each for its escapes, its name and its keys.
-#[tactic(auto, unfolding(crate::specs::Paths::place_at), using(crate::proofs::CutLemmas::pieces_cut))]
+#[tactic(auto, unfolding(crate::specs::Paths::place_at), using(al_base::proofs::CutLemmas::pieces_cut))]
 pub fn walk(alloc: Global, from: Place, path: &[u8]) -> Result<Place, UriFault>
     ensures { Answers (place_at from path.now) result }
 {

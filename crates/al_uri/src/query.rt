@@ -5,7 +5,7 @@ ghost use Rattle.al_uri.specs.Queries.{after_part, from_value, insert_value, kno
 ghost use Rattle.std.specs.Option.{option_copied};
 ghost use Rattle.std.specs.Prelude.{◌≡◌};
 
-use crate::cut::cut;
+use al_base::cut::cut;
 use crate::escape::read_decoded;
 use crate::fault::UriFault;
 use crate::path;
@@ -92,7 +92,7 @@ impl Target {
 
 /// The parameters of the query, of a resource that has these. Its parts are judged from left to right, each for its escapes, its name
 /// and its value.
-#[tactic(auto, unfolding(crate::specs::Queries::parameters_of), using(crate::proofs::CutLemmas::pieces_cut))]
+#[tactic(auto, unfolding(crate::specs::Queries::parameters_of), using(al_base::proofs::CutLemmas::pieces_cut))]
 pub fn read(alloc: Global, known: Known, query: Option<&[u8]>) -> Result<Parameters, UriFault>
     ensures { Answers (parameters_of known (option_copied query.entry)) result }
 {

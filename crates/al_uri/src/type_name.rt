@@ -1,27 +1,25 @@
 //! Names of alarm types as they are written in paths and bodies.
 
-ghost use Rattle.al_base.specs.Identifiers.{IsTypeName};
+ghost use Rattle.al_base.specs.Forms.{IsReadAs};
+ghost use Rattle.al_base.specs.Identifiers.{is_type_name};
 ghost use Rattle.al_uri.specs.TypeNames.{is_colon, with_module};
 ghost use Rattle.std.specs.List.{list_any};
 ghost use Rattle.std.specs.Prelude.{◌≡◌, ◌++◌, IfOk, codes};
 
-use al_base::{TypeFault, TypeId};
+use al_base::{FormFault, TypeId};
 use std::alloc::{AllocError, Global};
 
 /// The alarm type of a name. One without a colon is of the module `ietf-alarms`, so that `link` names `ietf-alarms:link`. Form where
 /// the name with its module is no alarm type.
 #[tactic(auto, unfolding(crate::specs::TypeNames::with_module))]
-pub fn read_type(alloc: Global, name: &[u8]) -> Result<TypeId, TypeFault>
-    ensures ok { IfOk result (λ id. (id ≡ with_module name.now) × IsTypeName (with_module name.now)) }
-    ensures form { result ≡ Err TypeFault.Form → ¬ (IsTypeName (with_module name.now)) }
+pub fn read_type(alloc: Global, name: &[u8]) -> Result<TypeId, FormFault>
+    ensures { IsReadAs is_type_name (with_module name.now) result }
 {
     if has_colon(name) {
         return TypeId::read(alloc, name);
     }
-    match qualified(alloc, name) {
-        Ok(full) => TypeId::read(alloc, full.as_slice()),
-        Err(AllocError) => Err(TypeFault::Memory),
-    }
+    let full = qualified(alloc, name)?;
+    TypeId::read(alloc, full.as_slice())
 }
 
 fn has_colon(name: &[u8]) -> bool

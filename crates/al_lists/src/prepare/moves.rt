@@ -3,7 +3,7 @@ ghost use Rattle.std.specs.Prelude.{◌≡◌, ◌++◌, ◌∷◌, [], ◌||◌
 ghost use Rattle.al_base.specs.Limits.{own_name};
 ghost use Rattle.al_model.specs.Alarms.{move_entry, own_entry};
 ghost use Rattle.al_model.specs.declared.event.Side.TheVariants as sides;
-ghost use Rattle.al_select.specs.Filters.{same_text};
+ghost use Rattle.al_base.specs.Texts.{same_text};
 ghost use Rattle.al_alarms.specs.Views.{mark_of, states};
 ghost use Rattle.al_lists.specs.Moves.{first_name, is_move};
 
@@ -36,7 +36,8 @@ impl Moves {
         shelves: &Shelves,
         inventory: &Inventory,
     ) -> Result<Moves, AllocError>
-        ensures { IfOk result (AreMoves time (first_name inventory.now shelves.now.shelves) (states alarms.now)) }
+        ensures { IfOk result (AreMoves time (first_name inventory.now shelves.now.shelves)
+            (states alarms.now)) }
     {
         let mut moves = Moves::none(alloc, alarms.len())?;
         for alarm in alarms {
@@ -48,7 +49,8 @@ impl Moves {
 
     /// No moves, with room for those of so many alarms.
     fn none(alloc: Global, count: usize) -> Result<Moves, AllocError>
-        ensures { IfOk result (λ moves. (moves.entries.items ≡ []) × (moves.list ≡ false) × (moves.shelf ≡ false)) }
+        ensures { IfOk result (λ moves. (moves.entries.items ≡ []) × (moves.list ≡ false)
+            × (moves.shelf ≡ false)) }
     {
         Ok(Moves {
             entries: Vec::with_capacity(alloc, count)?,
@@ -65,7 +67,8 @@ impl Moves {
         before: Option<&Text>,
         after: Option<&Text>,
     ) -> Result<(), AllocError>
-        ensures { OnOk result (AddsMove time (option_copied before.entry) (option_copied after.entry) self.old self.new) }
+        ensures { OnOk result (AddsMove time (option_copied before.entry)
+            (option_copied after.entry) self.old self.new) }
     {
         let entry = move_entry(alloc, time, before, after)?;
         let moves = entry.is_some();
@@ -91,7 +94,8 @@ pub(crate) fn first_name<'a>(
 }
 
 fn name_at(shelves: &Shelves, place: usize) -> Option<&Text>
-    ensures { option_copied result ≡ option_map (λ shelf. shelf.name) (slice_get shelves.now.shelves place) }
+    ensures { option_copied result
+        ≡ option_map (λ shelf. shelf.name) (slice_get shelves.now.shelves place) }
 {
     match shelves.at(place) {
         Some(shelf) => Some(&shelf.name),
@@ -119,7 +123,8 @@ pub(crate) fn move_entry(
     before: Option<&Text>,
     after: Option<&Text>,
 ) -> Result<Option<OperatorEntry>, AllocError>
-    ensures { IfOk result (λ entry. entry ≡ move_entry time (option_copied before.entry) (option_copied after.entry)) }
+    ensures { IfOk result (λ entry.
+        entry ≡ move_entry time (option_copied before.entry) (option_copied after.entry)) }
 {
     match after {
         Some(name) => shelving(alloc, time, before, name),
@@ -133,7 +138,8 @@ fn shelving(
     before: Option<&Text>,
     name: &Text,
 ) -> Result<Option<OperatorEntry>, AllocError>
-    ensures { IfOk result (λ entry. entry ≡ move_entry time (option_copied before.entry) (Some name.now)) }
+    ensures { IfOk result (λ entry.
+        entry ≡ move_entry time (option_copied before.entry) (Some name.now)) }
 {
     if is_same(before, name) {
         return Ok(None);
@@ -142,7 +148,8 @@ fn shelving(
 }
 
 fn is_same(before: Option<&Text>, name: &Text) -> bool
-    ensures { result ≡ option_map_or (λ old. same_text old name.now) (option_copied before.entry) false }
+    ensures { result ≡ option_map_or (λ old.
+        same_text old name.now) (option_copied before.entry) false }
 {
     match before {
         Some(old) => *old == *name,

@@ -25,9 +25,11 @@ pub(crate) fn operate(
     text: &Option<Text>,
 ) -> Result<Prepared, AllocError>
     requires valid { IsValid contents.old.state }
-    requires comes { Comes contents.old.state time (events.Operate key.now state operator.now text.now) }
+    requires comes { Comes contents.old.state time
+        (events.Operate key.now state operator.now text.now) }
     ensures state { contents.new.state ≡ contents.old.state }
-    ensures ok { IfOk result (Prepares contents.new time (events.Operate key.now state operator.now text.now)) }
+    ensures ok { IfOk result (Prepares contents.new time
+        (events.Operate key.now state operator.now text.now)) }
 {
     let place = place_of(contents, key);
     contents.reserve_operator(place)?;
@@ -62,7 +64,8 @@ fn operator_entry(
     operator: &Text,
     text: &Option<Text>,
 ) -> Result<OperatorEntry, AllocError>
-    ensures { IfOk result (λ entry. entry ≡ record { time = time; state = state; operator = operator.now; text = text.now }) }
+    ensures { IfOk result (λ entry.
+        entry ≡ record { time = time; state = state; operator = operator.now; text = text.now }) }
 {
     Ok(OperatorEntry {
         time,

@@ -127,7 +127,8 @@ fn status_note(
     status: Status,
     text: &Text,
 ) -> Result<Option<NoteBody>, AllocError>
-    ensures { IfOk result (λ note. note ≡ cond told (Some (notes.Status key.now status text.now)) None) }
+    ensures { IfOk result (λ note.
+        note ≡ cond told (Some (notes.Status key.now status text.now)) None) }
 {
     if !told {
         return Ok(None);
@@ -148,7 +149,8 @@ fn raise(
     requires absent { IsAbsentAt key.now contents.old.state.alarms place }
     requires valid { IsValid contents.old.state }
     ensures state { contents.new.state ≡ contents.old.state }
-    ensures ok { IfOk result (Prepares contents.new time (events.Report key.now (Active severity) text.now)) }
+    ensures ok { IfOk result (Prepares contents.new time
+        (events.Report key.now (Active severity) text.now)) }
 {
     contents.reserve_alarm()?;
     let new = New::of(alloc, contents, time, key, severity, text)?;
@@ -185,7 +187,9 @@ impl New {
         text: &Text,
     ) -> Result<New, AllocError>
         requires { KeepsOne contents.now.state.max }
-        ensures alarm { IfOk result (λ new. new.alarm.state ≡ new_alarm (shelf_name contents.now.state key.now) time key.now severity text.now) }
+        ensures alarm { IfOk result (λ new.
+            new.alarm.state ≡ new_alarm (shelf_name contents.now.state key.now) time key.now
+            severity text.now) }
         ensures max { IfOk result (λ new. new.alarm.max ≡ contents.now.state.max) }
         ensures shelved { IfOk result (λ new. new.shelved ≡ is_shelved contents.now.state key.now) }
     {

@@ -43,7 +43,8 @@ fn with_shelf(
 ) -> Result<Shelves, AllocError>
     requires few { length (without shelf.now.name shelves.now.shelves) < most_shelves }
     requires within { at ≤ length (without shelf.now.name shelves.now.shelves) }
-    ensures { IfOk result (λ after. after.shelves ≡ insert (without shelf.now.name shelves.now.shelves) at shelf.now) }
+    ensures { IfOk result (λ after.
+        after.shelves ≡ insert (without shelf.now.name shelves.now.shelves) at shelf.now) }
 {
     let mut after = shelves.copy(alloc)?;
     after.reserve()?;
@@ -75,7 +76,8 @@ fn reshelve(
     shelves: Shelves,
 ) -> Result<Prepared, AllocError>
     ensures state { contents.new.state ≡ contents.old.state }
-    ensures ok { IfOk result (PreparesMoves contents.new time (with_shelves contents.new.state shelves.shelves)) }
+    ensures ok { IfOk result (PreparesMoves contents.new time
+        (with_shelves contents.new.state shelves.shelves)) }
 {
     let moves = to_shelves(alloc, contents, time, &shelves)?;
     contents.reserve_moves(moves.entries.as_slice())?;
@@ -98,7 +100,9 @@ fn to_shelves(
     time: Stamp,
     shelves: &Shelves,
 ) -> Result<Moves, AllocError>
-    ensures { IfOk result (AreMoves time (first_name (inventory_of contents.now.state) shelves.now.shelves) contents.now.state.alarms) }
+    ensures { IfOk result (AreMoves time
+        (first_name (inventory_of contents.now.state) shelves.now.shelves)
+        contents.now.state.alarms) }
 {
     let none = Inventory::empty(alloc);
     let inventory = installed_or(contents.inventory(), &none);

@@ -9,7 +9,7 @@ returns-then-is_identifier c =
     let second = c.is_identifier-then-is_identifier.ensures ∙ ap is_identifier (take_rest c.args.bytes.now (c.in-Some.colon + 1)) in
     let first = sym c.is_identifier.ensures ∙ c.if-is_identifier.true in
     let place = sym c.in-Some.ensures.place in (
-      λ h. named c.args.bytes.now c.in-Some.colon place c.if-bytes-gt128.false first (sym second ∙ h),
+      λ h. named c.args.bytes.now c.in-Some.colon place c.if-bytes-gt-LONGEST_TYPE.false first (sym second ∙ h),
       λ name. second ∙ (at_colon c.args.bytes.now c.in-Some.colon place name).1,
     )
 

@@ -1,5 +1,6 @@
 use Rattle.std.proofs.Common.{◌≡◌, ◌-◌, ◌++◌, Ok}
-use Rattle.al_frame.specs.Formats.{and_then, each_at}
+use Rattle.al_frame.specs.Formats.{each_at}
+use Rattle.al_base.specs.Answers.{and_then}
 use Rattle.al_frame.proofs.list.each.Given as goal
 
 abbrev pub invariant-loop : goal.invariant-loop

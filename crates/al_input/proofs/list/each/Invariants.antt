@@ -1,5 +1,5 @@
 use Rattle.std.proofs.Common.{◌≡◌, ◌++◌, Ok, drop, map}
-use Rattle.al_uri.specs.Answers.{and_then, each}
+use Rattle.al_base.specs.Answers.{and_then, each}
 use Rattle.serde_json.specs.View.{view}
 use Rattle.al_input.proofs.list.each.Given as goal
 

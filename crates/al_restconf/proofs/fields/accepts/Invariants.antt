@@ -1,8 +1,8 @@
 use Rattle.std.proofs.Common.{◌≡◌}
 use Rattle.std.specs.List.{list_any}
 use Rattle.std.specs.Option.{option_copied}
-use Rattle.al_uri.proofs.CutLemmas.{size_left}
-use Rattle.al_uri.specs.Cuts.{pieces, pieces_left}
+use Rattle.al_base.proofs.CutLemmas.{size_left}
+use Rattle.al_base.specs.Cuts.{pieces, pieces_left}
 use Rattle.al_restconf.specs.Fields.{answered_types, is_of_types}
 use Rattle.al_restconf.proofs.fields.accepts.Given as goal
 

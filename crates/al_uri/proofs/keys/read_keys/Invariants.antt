@@ -1,9 +1,9 @@
 use Rattle.std.proofs.Common.{◌≡◌, ◌++◌, Ok}
 use Rattle.std.specs.Option.{option_copied}
-use Rattle.al_uri.specs.Answers.{and_then, each}
-use Rattle.al_uri.specs.Cuts.{pieces_left}
+use Rattle.al_base.specs.Answers.{and_then, each}
+use Rattle.al_base.specs.Cuts.{pieces_left}
 use Rattle.al_uri.specs.Escapes.{decoded}
-use Rattle.al_uri.proofs.CutLemmas.{size_left}
+use Rattle.al_base.proofs.CutLemmas.{size_left}
 use Rattle.al_uri.proofs.keys.read_keys.Given as goal
 
 -- the keys left, behind those so far

@@ -1,8 +1,8 @@
 use Rattle.std.proofs.Common.{◌≡◌}
 use Rattle.std.specs.Option.{option_copied}
-use Rattle.al_uri.specs.Cuts.{pieces, pieces_left}
+use Rattle.al_base.specs.Cuts.{pieces, pieces_left}
 use Rattle.al_uri.specs.Paths.{walk, walk_rooted}
-use Rattle.al_uri.proofs.CutLemmas.{size_left}
+use Rattle.al_base.proofs.CutLemmas.{size_left}
 use Rattle.al_uri.proofs.path.walk.Given as goal
 
 -- the segments left, from the place so far

@@ -1,8 +1,8 @@
 use Rattle.std.proofs.Common.{◌≡◌}
 use Rattle.std.specs.Option.{option_copied}
-use Rattle.al_uri.specs.Cuts.{pieces_left}
+use Rattle.al_base.specs.Cuts.{pieces_left}
 use Rattle.al_uri.specs.Queries.{after_parts, no_parameters, not_empty}
-use Rattle.al_uri.proofs.CutLemmas.{size_left}
+use Rattle.al_base.proofs.CutLemmas.{size_left}
 use Rattle.al_uri.proofs.query.read.Given as goal
 
 -- the parts left, behind those so far

@@ -10,7 +10,7 @@ returns-in-Err-clause-only c = λ match. only_memory c.args.text.now c.in-Err.fa
 pub returns-in-Err-clause-xpath : goal.returns-in-Err-clause-xpath
 returns-in-Err-clause-xpath c = λ place.
     let shortest : 1 ≤ length c.args.text.now = grind (arith, nat_tests, c.is_empty.ensures, c.if-is_empty.false) in
-    let longest : length c.args.text.now ≤ 512 = omega (arith, c.if-text-gt-MAX_RESOURCE.false) in
+    let longest : length c.args.text.now ≤ 512 = omega (arith, c.if-text-gt-LONGEST_RESOURCE.false) in
     stop_exactly (Err c.in-Err.fault) (IsSized c.args.text.now) c.args.text.now c.in-Err.fault place refl (record { shortest = shortest; longest = longest }) c.in-Err.ensures
 
 pub returns-in-Ok-clause-no_pattern : goal.returns-in-Ok-clause-no_pattern
