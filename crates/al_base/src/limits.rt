@@ -58,10 +58,10 @@ pub const MOST_NOTES: usize = 4096;
 pub const MOST_PAGE_NOTES: usize = 256;
 
 /// The greatest `max-alarm-status-changes` that isn't infinite.
-pub const MOST_STATUS_CHANGES: u64 = 65_535;
+pub const MOST_STATUS_CHANGES: u16 = 65_535;
 
 /// How many of one of the units of time an age may have that a filter asks for.
-pub const MOST_AGE_UNITS: u64 = 65_535;
+pub const MOST_AGE_UNITS: u16 = 65_535;
 
 /// The name under which the server itself adds operator entries.
 pub const OWN_NAME: &[u8] = b"alarmd";

@@ -1,14 +1,14 @@
 -- Formats that are made of others keep three laws: what is read is spelled so, what is spelled so is read again, and what is cut is truncated.
-use Rattle.std.proofs.Common.{◌≡◌, ℕ, zero, suc, ◌+◌, ◌-◌, ◌^◌, ◌<◌, ◌≤◌, Bool, true, false, cond, not, ◌&&◌, ◌⊎◌, inl, inr, ltb, leb, List, [], ◌∷◌, ◌++◌, length, get_or, take, drop, Option, Some, None, Result, Ok, Err, refl, sym, ap, subst, ◌∙◌, append_assoc, arith}
+use Rattle.std.proofs.Common.{◌≡◌, ℕ, zero, suc, ◌+◌, ◌-◌, ◌^◌, ◌<◌, ◌≤◌, Bool, true, false, cond, ◌&&◌, ◌⊎◌, inl, inr, ltb, List, [], ◌∷◌, ◌++◌, length, get_or, take, drop, Option, Some, None, Result, Ok, Err, refl, sym, ap, subst, ◌∙◌, append_assoc, arith}
 use Rattle.std.specs.Prelude.{nat_lt, nat_le}
 use Rattle.std.specs.Int.{Width, w16, w64, byte_len, from_be_bytes, to_be_bytes}
 use Rattle.std.specs.List.{list_all}
-use Rattle.std.proofs.lemmas.Bool.{false≢true, cases_lt, and_parts, and_from, ltb-true, ltb-false, leb-true, le-leb, lt-ltb, le-ltb}
+use Rattle.std.proofs.lemmas.Bool.{cases_lt, and_parts, and_from, ltb-true, ltb-false, leb-true, lt-ltb, le-ltb}
 use Rattle.std.proofs.lemmas.List.{take_at, drop_at, take-append-drop, length-append, length-take, get_or-drop, get_or-take, get_or_past}
 use Rattle.std.proofs.lemmas.Nat.{be_bytes_2, be_bytes_8, from_be_bytes-to_be_bytes_2, from_be_bytes-to_be_bytes_8}
 use Rattle.al_frame.specs.declared.fault.FrameFault.{FrameFault}
 use Rattle.al_frame.specs.declared.fault.FrameFault.TheVariants.{Truncated, Byte}
-use Rattle.al_frame.specs.Formats.{Format, both, byte, byte_at, bytes_at, checked, coded, each_at, list, named, number, number_at, opt, opt_at, passed, piece, piece_at, seen, spelled_each, spelled_opt, fits_opt, text}
+use Rattle.al_frame.specs.Formats.{Format, both, byte, byte_at, bytes_at, checked, coded, each_at, list, named, number, number_at, opt, opt_at, passed, piece, piece_at, seen, spelled_each, spelled_opt, fits_opt}
 use Rattle.al_base.specs.Answers.{and_then}
 
 -- ---- steps

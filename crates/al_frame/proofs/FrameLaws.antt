@@ -1,29 +1,22 @@
 -- The formats of a frame keep the laws of formats.
-use Rattle.std.proofs.Common.{◌≡◌, ℕ, zero, suc, ◌-◌, ◌+◌, ◌^◌, ◌<◌, ◌≤◌, Bool, true, false, cond, eqb, not, ◌&&◌, ◌⊎◌, inl, inr, List, [], ◌∷◌, ◌++◌, length, Option, Some, None, Result, Ok, Err, refl, sym, ap, subst, ◌∙◌, append-nil, length-append, arith}
-use Rattle.std.specs.Prelude.{◌==◌, nat_le, nat_lt, find}
+use Rattle.std.proofs.Common.{◌≡◌, ℕ, zero, suc, ◌-◌, ◌^◌, ◌<◌, ◌≤◌, Bool, true, false, cond, eqb, not, List, [], ◌∷◌, ◌++◌, length, Option, Some, None, Result, Ok, Err, refl, sym, ap, subst, ◌∙◌, append-nil, length-append, arith}
+use Rattle.std.specs.Prelude.{◌==◌, nat_le, nat_lt}
 use Rattle.std.specs.Cmp.Lexicographic.{pointwise}
 use Rattle.std.specs.Int.{w16, w64}
 use Rattle.std.proofs.lemmas.Bool.{and_parts, and_from, eqb-true, ne_eqb, leb-true, le-leb, lt-ltb, ltb-true}
 use Rattle.std.proofs.lemmas.List.{nil_from_length}
 use Rattle.al_base.specs.Identifiers.{is_type_name}
 use Rattle.al_base.specs.Limits.{is_age, is_operator_name, is_severity_set, is_stamp, is_text}
-use Rattle.al_base.specs.declared.event_type.EventType.{EventType}
 use Rattle.al_base.specs.declared.event_type.EventType.TheVariants.{Other, CommunicationsAlarm, QualityOfServiceAlarm, ProcessingErrorAlarm, EquipmentAlarm, EnvironmentalAlarm, IntegrityViolation, OperationalViolation, PhysicalViolation, SecurityServiceOrMechanismViolation, TimeDomainViolation}
-use Rattle.al_base.specs.declared.operator.OperatorState.{OperatorState}
 use Rattle.al_base.specs.declared.operator.OperatorState.TheVariants.{None0, Ack, Closed, Shelved, UnShelved}
 use Rattle.al_base.specs.declared.severity.Severity.{Severity}
 use Rattle.al_base.specs.declared.severity.Severity.TheVariants.{Indeterminate, Warning, Minor, Major, Critical}
-use Rattle.al_base.specs.declared.severity.Status.{Status}
 use Rattle.al_base.specs.declared.severity.Status.TheVariants.{Cleared, Active}
-use Rattle.al_ids.specs.declared.key.AlarmKey.{AlarmKey}
 use Rattle.al_model.specs.declared.entry.Entry.{Entry}
 use Rattle.al_model.specs.declared.event.Event.{Event}
 use Rattle.al_model.specs.declared.event.Event.TheVariants as events
-use Rattle.al_model.specs.declared.event.Side.{Side}
 use Rattle.al_model.specs.declared.event.Side.TheVariants as sides
-use Rattle.al_notify.specs.declared.rule.Mode.{Mode}
 use Rattle.al_notify.specs.declared.rule.Mode.TheVariants.{AllStateChanges, RaiseAndClear, SeverityLevel}
-use Rattle.al_select.specs.declared.purge.Clearance.{Clearance}
 use Rattle.al_select.specs.declared.purge.Clearance.TheVariants as of_clearance
 use Rattle.al_select.specs.declared.purge.Compare.{Compare}
 use Rattle.al_select.specs.declared.purge.Compare.TheVariants.{Below, Equal, Above}
@@ -34,13 +27,13 @@ use Rattle.al_frame.specs.Codes.{with_code, compare_code, comparisons, flag_code
 use Rattle.al_base.specs.Names.{event_type_number, event_types, severities, state_number, states, statuses}
 use Rattle.al_select.specs.Clearances.{clearance_number, clearances}
 use Rattle.al_notify.specs.Modes.{mode_number, modes}
-use Rattle.al_frame.specs.Formats.{Format, both, byte, byte_at, checked, coded, list, named, number, opt, piece, seen, set, text}
+use Rattle.al_frame.specs.Formats.{Format, both, byte, byte_at, coded, list, named, number, piece, set, text}
 use Rattle.al_base.specs.Answers.{and_then}
 use Rattle.al_base.specs.Repeats.{repeats}
 use Rattle.al_ids.specs.Forms.{is_match, is_pattern_text}
 use Rattle.al_base.specs.Operators.{is_operators}
-use Rattle.al_frame.specs.Frames.{asked, asked_at, spelled_asked, compress, compressed, criterion, entry, entry_of, event, event_at, event_by, fits_event, frame_of, identity, inventory, is_max, key, kind_at, kind_of, makes_inventory, max_code, max_of, maximum, operate, operated, placed_shelf, purge, purged, qualifier, report, reported, resource, resource_match, row, rule, severity, shelf, shelf_dropped, shelf_name, shelf_put, side, sided_compress, sided_purge, spelled_fields, type_name, whole_at, word}
-use Rattle.al_frame.proofs.FormatLaws.{bind_ok, both_is, byte_is, checked_is, coded_is, IsBytes, IsBytes-rest, IsCode, IsFormat, list_is, named_ok, number_is, ok_is, opt_is, pass_ok, piece_is, seen_is, Takes, Takes-then, where_cut, wide16, wide64}
+use Rattle.al_frame.specs.Frames.{asked, asked_at, spelled_asked, compress, compressed, criterion, entry, entry_of, event, event_at, event_by, fits_event, frame_of, identity, inventory, is_max, key, kind_at, kind_of, makes_inventory, max_code, max_of, maximum, operate, operated, placed_shelf, purge, purged, report, reported, resource, resource_match, row, rule, severity, shelf, shelf_dropped, shelf_name, shelf_put, side, sided_compress, sided_purge, spelled_fields, whole_at, word}
+use Rattle.al_frame.proofs.FormatLaws.{bind_ok, both_is, byte_is, checked_is, coded_is, IsBytes, IsBytes-rest, IsFormat, list_is, named_ok, number_is, ok_is, opt_is, pass_ok, piece_is, seen_is, Takes, wide16, wide64}
 
 -- ---- words
 

@@ -1,11 +1,11 @@
 -- An entry has a frame exactly where it is within limits.
-use Rattle.std.proofs.Common.{◌≡◌, ◌≢◌, ℕ, zero, suc, ◌*◌, ◌<◌, ◌≤◌, ◌^◌, Bool, true, false, not, ◌&&◌, ◌||◌, Option, Some, None, All, List, [], ◌∷◌, length, refl, ap, arith}
+use Rattle.std.proofs.Common.{◌≡◌, ◌≢◌, ℕ, zero, suc, ◌*◌, ◌<◌, ◌≤◌, ◌^◌, Bool, true, false, not, ◌&&◌, ◌||◌, Option, Some, None, All, List, [], ◌∷◌, length, refl, arith}
 use Rattle.std.specs.Bool.{Decides}
 use Rattle.std.specs.Cmp.Lexicographic.{pointwise, bytes_decides}
 use Rattle.std.specs.List.{AllPairs, list_all, list_any, slice_index_or}
 use Rattle.std.specs.Int.{w64}
 use Rattle.std.specs.Prelude.{◌==◌, ⊤, nat_le, nat_lt, IfSome}
-use Rattle.std.proofs.lemmas.Bool.{false≢true, ltb-true, lt-ltb, leb-true, le-leb}
+use Rattle.std.proofs.lemmas.Bool.{false≢true}
 use Rattle.std.proofs.lemmas.Bool.Decides.{Decides-and, Decides-at, Decides-like, Decides-ltb, Decides-not, Decides-by_and}
 use Rattle.al_base.proofs.FormTests.{decides_age, decides_le, decides_operator_name, decides_text, decides_type_name}
 use Rattle.al_base.specs.Identifiers.{IsTypeName, is_type_name}
@@ -15,7 +15,7 @@ use Rattle.al_base.specs.declared.operator.OperatorState.TheVariants.{None0, Ack
 use Rattle.al_base.specs.declared.severity.Status.{Status}
 use Rattle.al_ids.specs.Matches.{IsMatch}
 use Rattle.al_ids.specs.declared.key.AlarmKey.{AlarmKey}
-use Rattle.al_model.specs.Limits.{IsReportWithin, IsOperateWithin, IsPatternWithin, IsTypeMatchWithin, IsShelfWithin, IsPutWithin, IsPurgeWithin, IsCompressWithin, IsIdentityWithin, IsRowWithin, IsInventoryWithin, IsEventWithin, IsEntryWithin}
+use Rattle.al_model.specs.Limits.{IsReportWithin, IsOperateWithin, IsTypeMatchWithin, IsShelfWithin, IsPutWithin, IsPurgeWithin, IsCompressWithin, IsIdentityWithin, IsRowWithin, IsInventoryWithin, IsEventWithin, IsEntryWithin}
 use Rattle.al_ids.specs.Limits.{IsKeyWithin}
 use Rattle.al_base.specs.Operators.{IsOperators, is_operators}
 use Rattle.al_model.specs.declared.entry.Entry.{Entry}
@@ -36,7 +36,7 @@ use Rattle.al_types.specs.declared.row.Row.{Row}
 use Rattle.al_frame.specs.Formats.{Format, checked, fits_opt, list, number, opt, set, text}
 use Rattle.al_base.specs.Repeats.{repeats}
 use Rattle.al_ids.specs.Forms.{is_match, is_pattern_text}
-use Rattle.al_frame.specs.Frames.{compress, criterion, entry, fits_event, identity, inventory, is_max, key, makes_inventory, maximum, operate, placed_shelf, purge, report, resource, resource_match, row, rule, shelf, shelf_name, sided_compress, sided_purge, type_name}
+use Rattle.al_frame.specs.Frames.{compress, criterion, entry, fits_event, identity, inventory, key, maximum, operate, placed_shelf, purge, report, resource, resource_match, row, rule, shelf, shelf_name, type_name}
 use Rattle.al_ids.proofs.MatchTests.{decides_match}
 use Rattle.al_frame.proofs.PatternTests.{decides_pattern}
 

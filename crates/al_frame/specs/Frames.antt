@@ -1,9 +1,8 @@
 -- The frame of an entry: its time, its origin, the kind of its event, and the event's fields.
-use Rattle.std.specs.Prelude.{ℕ, suc, ◌-◌, ◌==◌, ◌&&◌, nat_le, nat_lt, Bool, true, false, if◌then◌else◌, List, [], ◌∷◌, ◌++◌, length, Option, Some, None, Result, Ok, Err}
+use Rattle.std.specs.Prelude.{ℕ, suc, ◌-◌, ◌==◌, ◌&&◌, nat_le, Bool, true, if◌then◌else◌, List, [], ◌∷◌, length, Option, Some, None, Result, Ok, Err}
 use Rattle.std.specs.Int.{w16, w64}
 use Rattle.al_base.specs.Identifiers.{is_type_name}
 use Rattle.al_base.specs.Limits.{is_age, is_operator_name, is_severity_set, is_stamp, is_text, longest_alarm_text, longest_description, longest_operator_name, longest_operator_text, longest_qualifier, longest_resource, longest_shelf_name, most_identities, most_row_resources, most_rows, most_shelf_resources, most_shelf_types}
-use Rattle.al_base.specs.declared.event_type.EventType.{EventType}
 use Rattle.al_base.specs.declared.operator.OperatorState.{OperatorState}
 use Rattle.al_base.specs.declared.severity.Severity.{Severity}
 use Rattle.al_base.specs.declared.severity.Status.{Status}

@@ -18,9 +18,15 @@ use std::alloc::{AllocError, Global};
 
 pub type ShelfName = TextOf<1, LONGEST_SHELF_NAME>;
 
-type Resources = SetOf<MatchText, MOST_SHELF_RESOURCES>;
+// A count in a frame has two bytes.
 
-type Types = SetOf<Criterion, MOST_SHELF_TYPES>;
+const RESOURCES: u16 = MOST_SHELF_RESOURCES as u16;
+
+const TYPES: u16 = MOST_SHELF_TYPES as u16;
+
+type Resources = SetOf<MatchText, RESOURCES>;
+
+type Types = SetOf<Criterion, TYPES>;
 
 type Description = Opt<TextOf<0, LONGEST_DESCRIPTION>>;
 

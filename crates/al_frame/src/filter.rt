@@ -53,7 +53,7 @@ fn is_age(age: u64) -> bool
 {
     AGE_UNITS
         .iter()
-        .any(|unit| age % unit == 0 && age / unit <= MOST_AGE_UNITS)
+        .any(|unit| age % unit == 0 && age / unit <= u64::from(MOST_AGE_UNITS))
 }
 
 /// How an alarm's severity has to stand to another: 0 where nothing is asked.

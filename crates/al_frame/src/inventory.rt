@@ -18,13 +18,21 @@ use al_base::{EventType, List};
 use al_types::{Identity, Inventory, InventoryFault, Row};
 use std::alloc::{AllocError, Global};
 
-type Resources = ListOf<TextOf<1, LONGEST_RESOURCE>, MOST_ROW_RESOURCES>;
+// A count in a frame has two bytes.
+
+const IDENTITIES: u16 = MOST_IDENTITIES as u16;
+
+const ROWS: u16 = MOST_ROWS as u16;
+
+const RESOURCES: u16 = MOST_ROW_RESOURCES as u16;
+
+type Resources = ListOf<TextOf<1, LONGEST_RESOURCE>, RESOURCES>;
 
 type Description = TextOf<0, LONGEST_DESCRIPTION>;
 
-type Identities = ListOf<IdentityFields, MOST_IDENTITIES>;
+type Identities = ListOf<IdentityFields, IDENTITIES>;
 
-type Rows = ListOf<RowFields, MOST_ROWS>;
+type Rows = ListOf<RowFields, ROWS>;
 
 /// A declared alarm type.
 pub struct IdentityFields;
@@ -173,8 +181,10 @@ fn inventory_of(
     identities: List<Identity>,
     rows: List<Row>,
 ) -> Result<Inventory, FrameFault>
-    ensures { Gives (λ i. (i.identities, i.rows)) result (passed makes_inventory place (identities,
-        rows)) }
+    ensures { Gives (λ i. (i.identities, i.rows)) result (passed makes_inventory place (
+      identities,
+      rows,
+    )) }
 {
     match Inventory::build(alloc, identities.into_vec(), rows.into_vec()) {
         Ok(inventory) => Ok(inventory),

@@ -15,9 +15,9 @@ use std::alloc::{AllocError, Global};
 use std::marker::PhantomData;
 
 /// At most so many values.
-pub struct ListOf<F, const MOST: usize>(PhantomData<F>);
+pub struct ListOf<F, const MOST: u16>(PhantomData<F>);
 
-impl<F: Field, const MOST: usize> Field for ListOf<F, MOST> {
+impl<F: Field, const MOST: u16> Field for ListOf<F, MOST> {
     type Value = List<F::Value>;
 
     ghost format = { list MOST F.format };
@@ -39,12 +39,12 @@ impl<F: Field, const MOST: usize> Field for ListOf<F, MOST> {
 
 /// A count, at most so great.
 #[tactic(auto, unfolding(crate::specs::Formats::passed))]
-fn count_at(n: usize, most: usize, bytes: &[u8]) -> Result<(u16, &[u8]), FrameFault>
+fn count_at(n: usize, most: u16, bytes: &[u8]) -> Result<(u16, &[u8]), FrameFault>
     ensures { Gives (λ x. (x.0, x.1.now)) result
         ((checked (λ count. nat_le count most) (number w16)).read n bytes.now) }
 {
     let (count, rest) = u16_at(n, bytes)?;
-    if usize::from(count) > most {
+    if count > most {
         return Err(bad(n, bytes));
     }
     Ok((count, rest))
@@ -103,9 +103,9 @@ fn put_each<F: Field>(values: &[F::Value], out: &mut Vec<u8>) -> Result<(), Allo
 }
 
 /// At most so many values, no two of which are the same.
-pub struct SetOf<F, const MOST: usize>(PhantomData<F>);
+pub struct SetOf<F, const MOST: u16>(PhantomData<F>);
 
-impl<F: Field, const MOST: usize> Field for SetOf<F, MOST>
+impl<F: Field, const MOST: u16> Field for SetOf<F, MOST>
 where
     F::Value: PartialEq,
 {

@@ -99,7 +99,6 @@ impl Field for OperatorsState {
     type Value = OperatorState;
 
     ghost use Rattle.al_base.specs.Names.{state_number};
-
     ghost use Rattle.al_base.specs.Names.{states};
     ghost use Rattle.al_frame.specs.Formats.{checked};
     ghost use Rattle.al_base.specs.Operators.{is_operators};

@@ -52,7 +52,7 @@ fn takes_steps(
         → AllByRecursion IsStep asked_steps → asked.now ≡ path_text asked_steps
         → AllByRecursion IsStep given_steps → given.now ≡ path_text given_steps
         → (IsTrue result ↔ AllZip TakesStep
-            (with_modules (option_copied asked_owner.entry) asked_steps)
+        (with_modules (option_copied asked_owner.entry) asked_steps)
         (with_modules (option_copied given_owner.entry) given_steps)) }
 {
     let Some(asked) = cut_step(asked) else {
@@ -82,12 +82,18 @@ fn takes_step(
     ensures { (asked_predicates given_predicates : List Predicate)
         (asked_steps given_steps : List Step)
         → IsTail asked.now.rest.now asked_predicates asked_steps
-            → IsTail given.now.rest.now given_predicates given_steps
+        → IsTail given.now.rest.now given_predicates given_steps
         → (IsTrue result ↔ TakesStep
-        (record { defined_in = option_copied asked_owner.entry; name = asked.now.name.now;
-            predicates = asked_predicates })
-        (record { defined_in = option_copied given_owner.entry; name = given.now.name.now;
-            predicates = given_predicates })) }
+        (record {
+          defined_in = option_copied asked_owner.entry;
+          name = asked.now.name.now;
+          predicates = asked_predicates;
+        })
+        (record {
+          defined_in = option_copied given_owner.entry;
+          name = given.now.name.now;
+          predicates = given_predicates;
+        })) }
 {
     asked.name == given.name
         && takes_owner(asked_owner, given_owner)
@@ -111,7 +117,7 @@ fn has_all(asked: &[u8], given: &[u8]) -> bool
     ensures { (asked_predicates given_predicates : List Predicate)
         (asked_steps given_steps : List Step)
         → IsTail asked.now asked_predicates asked_steps
-            → IsTail given.now given_predicates given_steps
+        → IsTail given.now given_predicates given_steps
         → (IsTrue result ↔ AllByRecursion (HasPredicate given_predicates) asked_predicates) }
 {
     match cut_predicate(asked) {
@@ -173,8 +179,11 @@ fn cut_step(text: &[u8]) -> Option<Named<'_>>
 
 /// The predicate at the front of the text.
 fn cut_predicate(text: &[u8]) -> Option<Condition<'_>>
-    ensures parts { option_map (λ (condition : Condition). record { name = condition.name.now;
-        value = condition.value.now; rest = condition.rest.now }) result
+    ensures parts { option_map (λ (condition : Condition). record {
+      name = condition.name.now;
+      value = condition.value.now;
+      rest = condition.rest.now;
+    }) result
         ≡ parts_of text.now }
     ensures shorter { IfSome result (λ condition. length condition.rest.now < length text.now) }
 {

@@ -1,8 +1,11 @@
 pub mod Due
+pub mod Json
 pub mod Listed
 pub mod Named
 pub mod PlainLemmas
 pub mod PlainNumbers
+pub mod PlainReports
 pub mod Readings
+pub mod ReportLemmas
 pub mod Within
 pub mod WordLemmas

@@ -16,8 +16,10 @@ use Rattle.al_model.specs.declared.request.Request.{Request}
 use Rattle.al_input.specs.Faults.{Answers}
 use Rattle.al_input.specs.Inputs.{body, report, report_members, report_names, report_qualifier, report_resource, report_status, report_text, report_type}
 use Rattle.al_input.specs.Members.{is_among, known_only, names_in, one_of, optional, read_some, required, value_at}
-use Rattle.al_input.specs.Plain.{NamesInput, given, input_tree, members_at, needed, or_empty, texts, tree_of, whole_value}
-use Rattle.al_input.specs.Readers.{passed, text, type_name, word, word_of}
+use Rattle.al_input.specs.Plain.{NamesInput, given, input_tree, members_at, texts, tree_of, whole_value}
+use Rattle.al_input.specs.Reports.{text_at}
+use Rattle.al_input.specs.declared.report.Member.TheVariants.{Resource, TypeId, Severity, AlarmText, Qualifier}
+use Rattle.al_input.specs.Readers.{string_of}
 use Rattle.al_input.specs.declared.fault.InputFault.{InputFault}
 use Rattle.al_input.specs.declared.fault.InputFault.TheVariants.{BadValue, Missing}
 use Rattle.al_base.specs.Identifiers.{is_type_name}
@@ -86,18 +88,10 @@ unfolding one_of
 alone None second e = ap (λ o. Ok o) e
 alone (Some x) second e = rw e refl
 
-found_text : {A : Type 0} (read : Data → Result A InputFault) (t : Option (List ℕ)) → and_then (or_fault Missing (option_map string t)) read ≡ needed (λ x. read (string x)) t
-found_text read None = refl
-found_text read (Some x) = refl
-
-same_after : (r : Result (List ℕ) InputFault) → and_then (and_then r (λ x. Ok (Some x))) (λ found. Ok (unwrap_or found [])) ≡ r
-same_after (Ok x) = refl
-same_after (Err fault) = refl
-
-or_none : (t : Option (List ℕ)) → and_then (and_then (Ok (option_map string t)) (read_some (text 0 255))) (λ found. Ok (unwrap_or found [])) ≡ or_empty t
-unfolding text
-or_none None = refl
-or_none (Some x) = same_after (passed (is_text 0 255) x)
+-- the text of what is found
+as_text : (t : Option (List ℕ)) → read_some string_of (option_map string t) ≡ Ok t
+as_text None = refl
+as_text (Some x) = refl
 
 module _ (a b c d e : Option (List ℕ)) where
   absent : (k : List ℕ) → is_eq (slice_cmp nat_cmp k (codes "alarm-text")) ≡ false → is_eq (slice_cmp nat_cmp k (codes "alarm-type-id")) ≡ false → is_eq (slice_cmp nat_cmp k (codes "alarm-type-qualifier")) ≡ false
@@ -140,25 +134,25 @@ module _ (a b c d e : Option (List ℕ)) where
       rw (known report_members (codes "alarm-text") a _ refl (known report_members (codes "alarm-type-id") b _ refl (known report_members (codes "alarm-type-qualifier") c _ refl
       (known report_members (codes "perceived-severity") d _ refl (known report_members (codes "resource") e _ refl refl))))) refl
 
-  pub resource_said : report_resource (object (texts a b c d e)) ≡ needed (passed (is_text 1 512)) e
-  unfolding report_resource required text
-  resource_said = ap (λ r. and_then r (λ found. and_then (or_fault Missing found) (text 1 512))) resource_found ∙ found_text (text 1 512) e
+  pub resource_said : text_at Resource (object (texts a b c d e)) ≡ Ok e
+  unfolding optional
+  resource_said = ap (λ r. and_then r (read_some string_of)) resource_found ∙ as_text e
 
-  pub type_said : report_type (object (texts a b c d e)) ≡ needed (λ x. passed is_type_name (with_module x)) b
-  unfolding report_type required type_name
-  type_said = ap (λ r. and_then r (λ found. and_then (or_fault Missing found) type_name)) type_found ∙ found_text type_name b
+  pub type_said : text_at TypeId (object (texts a b c d e)) ≡ Ok b
+  unfolding optional
+  type_said = ap (λ r. and_then r (read_some string_of)) type_found ∙ as_text b
 
-  pub status_said : report_status (object (texts a b c d e)) ≡ needed (λ x. or_fault BadValue (word_of status_name statuses x)) d
-  unfolding report_status required word
-  status_said = ap (λ r. and_then r (λ found. and_then (or_fault Missing found) (word status_name statuses))) severity_found ∙ found_text (word status_name statuses) d
+  pub severity_said : text_at Severity (object (texts a b c d e)) ≡ Ok d
+  unfolding optional
+  severity_said = ap (λ r. and_then r (read_some string_of)) severity_found ∙ as_text d
 
-  pub text_said : report_text (object (texts a b c d e)) ≡ needed (passed (is_text 0 255)) a
-  unfolding report_text required text
-  text_said = ap (λ r. and_then r (λ found. and_then (or_fault Missing found) (text 0 255))) text_found ∙ found_text (text 0 255) a
+  pub text_said : text_at AlarmText (object (texts a b c d e)) ≡ Ok a
+  unfolding optional
+  text_said = ap (λ r. and_then r (read_some string_of)) text_found ∙ as_text a
 
-  pub qualifier_said : report_qualifier (object (texts a b c d e)) ≡ or_empty c
-  unfolding report_qualifier optional
-  qualifier_said = ap (λ r. and_then (and_then r (read_some (text 0 255))) (λ found. Ok (unwrap_or found []))) qualifier_found ∙ or_none c
+  pub qualifier_said : text_at Qualifier (object (texts a b c d e)) ≡ Ok c
+  unfolding optional
+  qualifier_said = ap (λ r. and_then r (read_some string_of)) qualifier_found ∙ as_text c
 
 -- ---- the whole body
 

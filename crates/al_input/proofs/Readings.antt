@@ -15,7 +15,7 @@ use Rattle.al_base.specs.Answers.{and_then, each, or_fault}
 use Rattle.al_uri.specs.TypeNames.{with_module}
 use Rattle.serde_json.specs.Data.{Data, Items}
 use Rattle.serde_json.specs.Find.{as_array}
-use Rattle.al_input.proofs.MatchTests.{decides_match, decides_spelled_pattern}
+use Rattle.al_ids.proofs.MatchTests.{decides_match, decides_spelled_pattern}
 use Rattle.al_ids.specs.Forms.{is_match, is_pattern_text}
 use Rattle.al_input.specs.Members.{one_of, optional, read_some, required, value_at, with_default}
 use Rattle.al_input.specs.Readers.{list, listed, number, passed, pattern, resource_match, set, string_of, text, type_name}

@@ -16,7 +16,7 @@ use Rattle.al_ids.specs.Matches.{IsMatch}
 use Rattle.al_ids.specs.declared.key.AlarmKey.{AlarmKey}
 use Rattle.al_model.specs.Limits.{IsPatternWithin, IsTypeMatchWithin, IsShelfWithin, IsPurgeWithin, IsCompressWithin, IsIdentityWithin, IsRowWithin, IsInventoryWithin, IsRequestWithin}
 use Rattle.al_shelf.specs.Limits.{IsSpotWithin}
-use Rattle.al_base.specs.Operators.{IsOperators}
+use Rattle.al_base.specs.Operators.{IsOperators, is_operators}
 use Rattle.al_model.specs.declared.event.Side.{Side}
 use Rattle.al_model.specs.declared.event.Side.TheVariants as sides
 use Rattle.al_model.specs.declared.request.Request.{Request}
@@ -38,7 +38,7 @@ use Rattle.serde_json.specs.Data.{Data}
 use Rattle.serde_json.specs.Find.{as_str}
 use Rattle.al_input.proofs.Readings.{AreFew, AreOther, IsBetween, ok_default, ok_if, ok_list, ok_match, ok_number, ok_one_of, ok_optional, ok_passed, ok_pattern, ok_required, ok_set, ok_text, ok_then, ok_type_name, ok_value}
 use Rattle.al_input.specs.Faults.{Answers}
-use Rattle.al_input.specs.Inputs.{action, action_input, action_members, age, age_members, bit_for, bit_of, body, body_or, built, compared, compress, compress_input, compress_members, creation_input, criterion, criterion_members, criterion_names, criterion_qualifier, criterion_type, identity, identity_members, in_unit, input_of, inventory, inventory_input, inventory_members, is_operators, is_wanted, level_input, max_input, maximum, maximum_of, mode_input, newest, newest_members, no_compress_filter, no_purge_filter, operators_state, purge, purge_input, purge_members, report, report_input, report_members, report_names, report_qualifier, report_resource, report_status, report_text, report_type, row, row_clears, row_description, row_event_type, row_members, row_names, row_qualifier, row_resources, row_severities, row_type, set_of, severity_set, shelf, shelf_body, shelf_description, shelf_input, shelf_members, shelf_name, shelf_names, shelf_resources, shelf_types, whole}
+use Rattle.al_input.specs.Inputs.{action, action_input, action_members, age, age_members, bit_for, bit_of, body, body_or, built, compared, compress, compress_input, compress_members, creation_input, criterion, criterion_members, criterion_names, criterion_qualifier, criterion_type, identity, identity_members, in_unit, input_of, inventory, inventory_input, inventory_members, is_wanted, level_input, max_input, maximum, maximum_of, mode_input, newest, newest_members, no_compress_filter, no_purge_filter, operators_state, purge, purge_input, purge_members, report, report_input, report_members, report_names, report_qualifier, report_resource, report_status, report_text, report_type, row, row_clears, row_description, row_event_type, row_members, row_names, row_qualifier, row_resources, row_severities, row_type, set_of, severity_set, shelf, shelf_body, shelf_description, shelf_input, shelf_members, shelf_name, shelf_names, shelf_resources, shelf_types, whole}
 use Rattle.al_input.specs.Limits.{IsAskedWithin}
 use Rattle.al_input.specs.Members.{known_only, one_of, optional, required, with_default}
 use Rattle.al_input.specs.Readers.{flag, list, number, only, passed, pattern, resource_match, set, text, type_name, word}

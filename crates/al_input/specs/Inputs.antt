@@ -42,6 +42,7 @@ use Rattle.al_input.specs.declared.asked.Asked.{Asked}
 use Rattle.al_input.specs.declared.asked.Asked.TheVariants.{Whole, Operate}
 use Rattle.al_input.specs.declared.fault.InputFault.{InputFault}
 use Rattle.al_input.specs.declared.fault.InputFault.TheVariants.{BadValue}
+use Rattle.al_base.specs.Operators.{is_operators}
 
 -- a body: an object of one member
 abbrev pub body : {A : Type 0} → List ℕ → List ℕ → (Data → Result A InputFault) → Data → Result A InputFault
@@ -134,14 +135,6 @@ unfoldable pub shelf_input : List ℕ → Spot → Data → Result Asked InputFa
 shelf_input name spot d = whole (λ made. requests.PutShelf made spot) (shelf_body (Some name) d)
 
 -- ---- what an operator says
-
--- the states that an operator sets
-abbrev pub is_operators : OperatorState → Bool
-is_operators None0 = true
-is_operators Ack = true
-is_operators Closed = true
-is_operators Shelved = false
-is_operators UnShelved = false
 
 unfoldable pub operators_state : Data → Result OperatorState InputFault
 operators_state d = and_then (word state_name states d) (passed is_operators)

@@ -1,3 +1,4 @@
+pub mod Bodies
 pub mod Faults
 pub mod Inputs
 pub mod Limits
@@ -5,3 +6,4 @@ pub mod Members
 pub mod Numbers
 pub mod Plain
 pub mod Readers
+pub mod Reports

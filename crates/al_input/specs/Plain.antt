@@ -24,15 +24,6 @@ texts text type_id qualifier severity resource =
 abbrev pub members_said : Said → Members
 members_said said = texts (option_copied said.text) (option_copied said.type_id) (option_copied said.qualifier) (option_copied said.severity) (option_copied said.resource)
 
--- the reading of a text that has to be there
-abbrev pub needed : {A : Type 0} → (List ℕ → Result A InputFault) → Option (List ℕ) → Result A InputFault
-needed read t = and_then (or_fault Missing t) read
-
--- a text that may be absent
-abbrev pub or_empty : Option (List ℕ) → Result (List ℕ) InputFault
-or_empty None = Ok []
-or_empty (Some t) = passed (is_text 0 longest_qualifier) t
-
 -- the names of a body's one member
 abbrev pub NamesInput : List ℕ → Type 0
 NamesInput name = (name ≡ codes "input") ⊎ (name ≡ codes "alarmd:input")

@@ -1,7 +1,8 @@
 //! What an operator says of an alarm (RFC 8632, action `set-operator-state`).
 
 ghost use Rattle.al_input.specs.Faults.{Answers};
-ghost use Rattle.al_input.specs.Inputs.{action, action_input, is_operators, operators_state};
+ghost use Rattle.al_input.specs.Inputs.{action, action_input, operators_state};
+ghost use Rattle.al_base.specs.Operators.{is_operators};
 ghost use Rattle.serde_json.specs.View.{view};
 ghost use Rattle.std.specs.Prelude.{◌≡◌};
 

@@ -16,6 +16,26 @@ pub enum InputFault {
     Memory,
 }
 
+/// Why a body has no tree.
+#[derive(Clone, Copy, Debug, PartialEq, Eq)]
+pub enum BodyFault {
+    /// The body is no JSON.
+    NotJson,
+    /// There was no memory for its tree.
+    Memory,
+}
+
+impl fmt::Display for BodyFault {
+    fn fmt<W: fmt::Write>(&self, f: &mut fmt::Formatter<W>) -> fmt::Result {
+        f.write_str(match self {
+            BodyFault::NotJson => "the body is no JSON",
+            BodyFault::Memory => "out of memory",
+        })
+    }
+}
+
+impl Error for BodyFault {}
+
 impl From<FormFault> for InputFault {
     ghost use Rattle.std.specs.Prelude.{◌≡◌};
     ghost use Rattle.al_input.specs.Faults.{form_fault};

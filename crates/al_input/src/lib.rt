@@ -22,6 +22,5 @@ mod text;
 mod word;
 
 pub use asked::Asked;
-pub use fault::InputFault;
-pub use inputs::input;
-pub use plain::plain_report;
+pub use fault::{BodyFault, InputFault};
+pub use inputs::ask;

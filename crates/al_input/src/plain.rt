@@ -1,23 +1,17 @@
 //! Reports whose members are texts, as instrumentation mostly sends them. Their bodies are read without a tree.
 
 ghost use Rattle.al_input.specs.Faults.{Answers};
-ghost use Rattle.al_input.specs.Inputs.{body, report, report_qualifier, report_resource, report_status, report_text, report_type};
+ghost use Rattle.al_input.specs.Inputs.{body, report};
 ghost use Rattle.al_input.specs.Plain.{NamesInput, input_tree, members_at, members_said, tree_of};
 ghost use Rattle.al_model.specs.Limits.{IsRequestWithin};
-ghost use Rattle.al_base.specs.Answers.{or_fault};
 ghost use Rattle.json.specs.Token as token;
-ghost use Rattle.serde_json.specs.Data.{Data, Members, no_members, object, put, string};
+ghost use Rattle.serde_json.specs.Data.{Data, no_members, object, put, string};
 ghost use Rattle.serde_json.specs.Read.{read};
-ghost use Rattle.std.specs.Prelude.{◌≡◌, ◌≤◌, [], ◌∷◌, IfOk, IfSome, IsUtf8, List, MatchResult, Some, Ok, Err, codes, length, option_copied, true, ℕ};
+ghost use Rattle.std.specs.Prelude.{◌≡◌, ◌≤◌, [], ◌∷◌, IfOk, IfSome, IsUtf8, List, Some, codes, length, true, ℕ};
 
 use crate::fault::InputFault;
-use crate::text::empty_text;
-use crate::word::Word;
-use al_base::limits::{LONGEST_ALARM_TEXT, LONGEST_QUALIFIER};
-use al_base::{Status, Text, TypeId, read_text};
-use al_ids::{AlarmKey, Resource, read_resource};
+use crate::report::{Member, Members, report};
 use al_model::Request;
-use al_uri::read_type;
 use json::{Reader, Scratch, Token};
 use std::alloc::Global;
 use std::str;
@@ -30,18 +24,6 @@ struct Said<'t> {
     qualifier: Option<&'t str>,
     severity: Option<&'t str>,
     resource: Option<&'t str>,
-}
-
-/// A text that has to be there.
-fn needed(text: Option<&str>) -> Result<&[u8], InputFault>
-    ensures { MatchResult result (λ bytes. or_fault InputFault.Missing (option_copied text.entry)
-        ≡ Ok bytes.now)
-        (λ fault. or_fault InputFault.Missing (option_copied text.entry) ≡ Err fault) }
-{
-    match text {
-        Some(text) => Ok(text.as_bytes()),
-        None => Err(InputFault::Missing),
-    }
 }
 
 impl<'t> Said<'t> {
@@ -76,64 +58,29 @@ impl<'t> Said<'t> {
         }
         None
     }
+}
 
-    #[tactic(auto, using(crate::proofs::PlainLemmas::resource_said))]
-    fn resource(&self, alloc: Global) -> Result<Resource, InputFault>
-        ensures { Answers (report_resource (object (members_said self.now))) result }
-    {
-        Ok(read_resource(alloc, needed(self.resource)?)?)
+impl<'t> Members for Said<'t> {
+    ghost tree = { λ said. object (members_said said) };
+
+    #[tactic(auto, using(crate::proofs::PlainLemmas::names_said))]
+    fn check(&self) -> Result<(), InputFault> {
+        Ok(())
     }
 
-    #[tactic(auto, using(crate::proofs::PlainLemmas::type_said))]
-    fn type_id(&self, alloc: Global) -> Result<TypeId, InputFault>
-        ensures { Answers (report_type (object (members_said self.now))) result }
-    {
-        Ok(read_type(alloc, needed(self.type_id)?)?)
-    }
-
-    #[tactic(auto, using(crate::proofs::PlainLemmas::status_said))]
-    fn status(&self) -> Result<Status, InputFault>
-        ensures { Answers (report_status (object (members_said self.now))) result }
-    {
-        match Status::of(needed(self.severity)?) {
-            Some(status) => Ok(status),
-            None => Err(InputFault::BadValue),
-        }
-    }
-
-    #[tactic(auto, using(crate::proofs::PlainLemmas::text_said))]
-    fn text(&self, alloc: Global) -> Result<Text, InputFault>
-        ensures { Answers (report_text (object (members_said self.now))) result }
-    {
-        Ok(read_text(alloc, 0, LONGEST_ALARM_TEXT, needed(self.text)?)?)
-    }
-
-    #[tactic(auto, using(crate::proofs::PlainLemmas::qualifier_said))]
-    fn qualifier(&self, alloc: Global) -> Result<Text, InputFault>
-        ensures { Answers (report_qualifier (object (members_said self.now))) result }
-    {
-        match self.qualifier {
-            Some(qualifier) => Ok(read_text(alloc, 0, LONGEST_QUALIFIER, qualifier.as_bytes())?),
-            None => empty_text(alloc),
-        }
-    }
-
-    /// The request.
-    #[tactic(auto, using(crate::proofs::Due::fault_first, crate::proofs::PlainLemmas::names_said), unfolding(crate::specs::Inputs::report))]
-    fn request(&self, alloc: Global) -> Result<Request, InputFault>
-        ensures { Answers (report (object (members_said self.now))) result }
-    {
-        let resource = self.resource(alloc)?;
-        let type_id = self.type_id(alloc)?;
-        let status = self.status()?;
-        let text = self.text(alloc)?;
-        let qualifier = self.qualifier(alloc)?;
-        let key = AlarmKey {
-            resource,
-            type_id,
-            qualifier,
+    #[tactic(auto, using(crate::proofs::PlainLemmas::resource_said, crate::proofs::PlainLemmas::type_said, crate::proofs::PlainLemmas::severity_said, crate::proofs::PlainLemmas::text_said, crate::proofs::PlainLemmas::qualifier_said))]
+    fn text(&self, member: Member) -> Result<Option<&[u8]>, InputFault> {
+        let text = match member {
+            Member::Resource => self.resource,
+            Member::TypeId => self.type_id,
+            Member::Severity => self.severity,
+            Member::AlarmText => self.text,
+            Member::Qualifier => self.qualifier,
         };
-        Ok(Request::Report { key, status, text })
+        match text {
+            Some(text) => Ok(Some(text.as_bytes())),
+            None => Ok(None),
+        }
     }
 }
 
@@ -220,7 +167,7 @@ fn read_body<'t>(reader: &mut Reader<'t>) -> Option<Said<'t>>
 }
 
 /// What the body of a report asks, if its members are texts, and no others but a report's plain names. None tells nothing.
-pub fn plain_report(alloc: Global, bytes: &[u8]) -> Option<Result<Request, InputFault>>
+pub(crate) fn plain_report(alloc: Global, bytes: &[u8]) -> Option<Result<Request, InputFault>>
     ensures exact { IfSome result (λ answer. (d : Data) × IsUtf8 bytes.now
         × (read bytes.now ≡ Some d)
         × Answers (body (codes "input") (codes "alarmd:input") report d) answer) }
@@ -234,5 +181,5 @@ pub fn plain_report(alloc: Global, bytes: &[u8]) -> Option<Result<Request, Input
         return None;
     };
     let said = read_body(&mut reader)?;
-    Some(said.request(alloc))
+    Some(report(alloc, &said))
 }

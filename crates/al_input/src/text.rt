@@ -21,7 +21,7 @@ use serde_json::Value;
 use std::alloc::Global;
 
 /// The bytes of a string.
-fn string_of(value: &Value) -> Result<&[u8], InputFault>
+pub(crate) fn string_of(value: &Value) -> Result<&[u8], InputFault>
     ensures string { MatchResult result (λ bytes.
         or_fault InputFault.BadValue (as_str (view value.now)) ≡ Ok bytes.now)
         (λ fault. or_fault InputFault.BadValue (as_str (view value.now)) ≡ Err fault) }

@@ -4,7 +4,6 @@ use Rattle.std.specs.List.{AllPairs}
 use Rattle.al_base.specs.Identifiers.{IsTypeName}
 use Rattle.al_base.specs.Limits.{IsAge, IsAlarmText, IsDescription, IsFilterName, IsOperatorName, IsOperatorText, IsPatternText, IsQualifier, IsResourceText, IsSeveritySet, IsShelfName, IsStatusChanges, last_stamp, most_row_resources, most_shelf_resources, most_shelf_types}
 use Rattle.al_base.specs.declared.operator.OperatorState.{OperatorState}
-use Rattle.al_base.specs.declared.operator.OperatorState.TheVariants.{None0, Ack, Closed, Shelved, UnShelved}
 use Rattle.al_ids.specs.Matches.{IsMatch}
 use Rattle.al_ids.specs.declared.key.AlarmKey.{AlarmKey}
 use Rattle.al_pattern.specs.Reading.{tree_of}
@@ -14,7 +13,6 @@ use Rattle.al_select.specs.declared.purge.PurgeFilter.{PurgeFilter}
 use Rattle.al_shelf.specs.declared.shelf.Shelf.{Shelf}
 use Rattle.al_shelf.specs.declared.shelf.TypeMatch.{TypeMatch}
 use Rattle.al_shelf.specs.declared.spot.Spot.{Spot}
-use Rattle.al_shelf.specs.declared.spot.Spot.TheVariants.{First, Last, Before, After, Keep}
 use Rattle.al_types.specs.Faults.{IsSound}
 use Rattle.al_types.specs.Inventories.{InventoryView}
 use Rattle.al_types.specs.declared.row.Identity.{Identity}

@@ -126,9 +126,9 @@ impl Walk {
         ensures free { self.new.free ≡ free_after self.old.free (seen c node) }
         ensures runs { (nodes : List Seen) (olds : List Bool) → Holds old.now olds →
             run (seen c node ∷ nodes) (drop i olds) self.old.level
-                (drop self.old.free self.old.levels)
+            (drop self.old.free self.old.levels)
             ≡ emitted result (run nodes (drop (i + 1) olds) self.new.level
-                (drop self.new.free self.new.levels)) }
+            (drop self.new.free self.new.levels)) }
     {
         match node {
             Node::Bar => {

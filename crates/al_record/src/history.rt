@@ -23,8 +23,11 @@ impl<E> Model for History<E> {
 
     ghost Value = { HistoryView E };
 
-    ghost view = { λ h. record { items = reverse h.stored.items; bound = h.bound;
-        spare = h.spare } };
+    ghost view = { λ h. record {
+      items = reverse h.stored.items;
+      bound = h.bound;
+      spare = h.spare;
+    } };
 
     ghost invariant = { λ h. IsWithin h.bound (vec_len h.stored)
         × (vec_len h.stored + h.spare ≤ vec_capacity h.stored) };

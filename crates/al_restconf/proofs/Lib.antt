@@ -1,5 +1,3 @@
 pub mod Carrying
-pub mod Json
 pub mod Paging
-pub mod PlainReports
 pub mod Values

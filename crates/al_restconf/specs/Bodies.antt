@@ -2,9 +2,12 @@
 use Rattle.std.specs.Prelude.{ℕ, Bool, true, false, ◌&&◌, if◌then◌else◌, Option, None, Some, Result, Ok, Err, List, codes}
 use Rattle.std.specs.Str.{is_utf8}
 use Rattle.al_http.specs.Requests.{RequestMessage, values_of}
+use Rattle.al_input.specs.Bodies.{data_of}
 use Rattle.al_input.specs.Inputs.{input_of}
 use Rattle.al_input.specs.declared.asked.Asked.{Asked}
 use Rattle.al_input.specs.declared.asked.Asked.TheVariants.{Whole, Operate}
+use Rattle.al_input.specs.declared.fault.BodyFault.{BodyFault}
+use Rattle.al_input.specs.declared.fault.BodyFault.TheVariants as bodies
 use Rattle.al_input.specs.declared.fault.InputFault.{InputFault}
 use Rattle.al_input.specs.declared.fault.InputFault.TheVariants as inputs
 use Rattle.al_model.specs.declared.request.Request.{Request}
@@ -15,29 +18,11 @@ use Rattle.al_uri.specs.declared.target.Target.TheVariants.{OneShelf, SetState, 
 use Rattle.serde_json.specs.Data.{Data, no_members, object}
 use Rattle.serde_json.specs.Read.{read}
 use Rattle.al_restconf.specs.Faults.{faulted}
-use Rattle.al_restconf.specs.Fields.{is_empty, operator_in}
+use Rattle.al_restconf.specs.Fields.{operator_in}
 use Rattle.al_restconf.specs.declared.fault.Fault.{Fault}
 use Rattle.al_restconf.specs.declared.fault.Fault.TheVariants.{NotJson, MissingOperator, UnknownMember, MissingMember, BadValue, Memory}
 use Rattle.al_restconf.specs.declared.method.Method.{Method}
 use Rattle.al_restconf.specs.declared.method.Method.TheVariants.{Delete}
-
--- ---- the body as JSON
-
--- the resources of which something is asked without a body
-abbrev pub may_be_empty : Target → Bool
-may_be_empty PurgeAlarms = true
-may_be_empty CompressAlarms = true
-may_be_empty PurgeShelved = true
-may_be_empty CompressShelved = true
-may_be_empty other = false
-
--- JSON is UTF-8 text of one value (RFC 8259).
-unfoldable pub json_of : List ℕ → Result Data Fault
-json_of body = if is_utf8 body then or_fault NotJson (read body) else Err NotJson
-
--- An empty body may stand for an empty object.
-unfoldable pub data_of : Target → List ℕ → Result Data Fault
-data_of target body = if may_be_empty target && is_empty body then Ok (object no_members) else json_of body
 
 -- ---- the operator
 
@@ -47,6 +32,10 @@ operator_at (SetState key) request = and_then (operator_in (values_of (codes "al
 operator_at target request = Ok None
 
 -- ---- the members
+
+abbrev pub body_fault : BodyFault → Fault
+body_fault bodies.NotJson = NotJson
+body_fault bodies.Memory = Memory
 
 abbrev pub input_fault : InputFault → Fault
 input_fault inputs.Unknown = UnknownMember
@@ -65,7 +54,7 @@ asked_by None (Operate key state text) = Err MissingOperator
 -- The body is judged as JSON, then the operator, then the members.
 unfoldable pub body_asks : Target → RequestMessage → Result Request Fault
 body_asks target request =
-    and_then (data_of target request.body) (λ value.
+    and_then (or_fault NotJson (data_of target request.body)) (λ value.
     and_then (operator_at target request) (λ operator.
     and_then (faulted input_fault (input_of target value)) (λ asked.
     asked_by operator asked)))

@@ -1,6 +1,7 @@
 -- What the fields of a request's head ask: which types of answers it accepts, of what type its body is, and which operator acts.
 use Rattle.std.specs.Prelude.{⊤, ℕ, ◌==◌, Bool, true, false, not, ◌||◌, if◌then◌else◌, Option, None, Some, Result, Ok, Err, List, [], ◌∷◌, codes, length, slice_get}
 use Rattle.std.specs.List.{list_any}
+use Rattle.al_input.specs.Bodies.{is_empty}
 use Rattle.al_base.specs.Limits.{is_operator_name}
 use Rattle.al_http.specs.Requests.{RequestMessage, names, values_of}
 use Rattle.al_base.specs.Cuts.{front, pieces}
@@ -49,10 +50,6 @@ abbrev pub brings_body : Method → Bool
 brings_body Post = true
 brings_body Put = true
 brings_body other = false
-
-abbrev pub is_empty : List ℕ → Bool
-is_empty [] = true
-is_empty (byte ∷ bytes) = false
 
 -- What isn't read isn't tested. The first field counts.
 unfoldable pub typed : Method → RequestMessage → Result ⊤ Fault

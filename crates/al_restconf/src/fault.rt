@@ -3,7 +3,7 @@ ghost use Rattle.al_restconf.specs.Faults.{row_of, told};
 ghost use Rattle.std.specs.Prelude.{◌≡◌, Some};
 
 use al_http::Response;
-use al_input::InputFault;
+use al_input::{BodyFault, InputFault};
 use al_model::Refusal;
 use al_uri::UriFault;
 use std::alloc::{AllocError, AllocFailed};
@@ -72,6 +72,20 @@ impl From<UriFault> for Fault {
             UriFault::BadKeys => Fault::BadKeys,
             UriFault::BadQuery => Fault::BadQuery,
             UriFault::Memory => Fault::Memory,
+        }
+    }
+}
+
+impl From<BodyFault> for Fault {
+    ghost use Rattle.std.specs.Prelude.{◌≡◌};
+    ghost use Rattle.al_restconf.specs.Bodies.{body_fault};
+
+    ghost from_gives = { λ body fault. fault ≡ body_fault body };
+
+    fn from(fault: BodyFault) -> Fault {
+        match fault {
+            BodyFault::NotJson => Fault::NotJson,
+            BodyFault::Memory => Fault::Memory,
         }
     }
 }

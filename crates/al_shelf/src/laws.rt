@@ -29,7 +29,7 @@ pub fn first_shelves_are_found()
         → IsFirstShelf i key shelves (position (takes i key) shelves) }
     ensures shelf { (i : InventoryView) (key : AlarmKey) (shelves : List Shelf)
         → first_shelf i key shelves
-            ≡ option_and_then (slice_get shelves) (position (takes i key) shelves) }
+        ≡ option_and_then (slice_get shelves) (position (takes i key) shelves) }
 {}
 
 /// The position of a spot is one among the shelves of other names, or right behind them.
@@ -42,7 +42,7 @@ pub fn spots_stand_among_others()
 pub fn put_shelves_are_sound()
     ensures { (shelf : Shelf) (shelves : List Shelf) (place : ℕ) → AreShelves shelves
         → place ≤ length (without shelf.name shelves)
-            → length (without shelf.name shelves) < most_shelves
+        → length (without shelf.name shelves) < most_shelves
         → AreShelves (insert (without shelf.name shelves) place shelf) }
 {}
 

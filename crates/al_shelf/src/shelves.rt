@@ -26,8 +26,10 @@ impl Model for Shelves {
 
     ghost Value = { ShelvesView };
 
-    ghost view = { λ s. record { shelves = s.shelves.items;
-        spare = vec_capacity s.shelves - vec_len s.shelves } };
+    ghost view = { λ s. record {
+      shelves = s.shelves.items;
+      spare = vec_capacity s.shelves - vec_len s.shelves;
+    } };
 
     ghost invariant = { λ s. AreShelves s.shelves.items };
 }

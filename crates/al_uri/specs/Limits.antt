@@ -1,10 +1,7 @@
 -- The limits that a target keeps.
 use Rattle.std.specs.Prelude.{⊤, ℕ, ◌<◌, ◌^◌, List}
-use Rattle.al_base.specs.Identifiers.{IsTypeName}
-use Rattle.al_base.specs.Limits.{IsQualifier, IsResourceText, IsShelfName}
-use Rattle.al_ids.specs.declared.key.AlarmKey.{AlarmKey}
+use Rattle.al_base.specs.Limits.{IsShelfName}
 use Rattle.al_shelf.specs.declared.spot.Spot.{Spot}
-use Rattle.al_shelf.specs.declared.spot.Spot.TheVariants.{First, Last, Before, After, Keep}
 use Rattle.al_uri.specs.declared.target.Target.{Target}
 use Rattle.al_uri.specs.declared.target.Target.TheVariants.{Shelving, OneShelf, OneAlarm, SetState, OneShelved, NotificationLog, JournalPage}
 use Rattle.al_ids.specs.Limits.{IsKeyWithin}

@@ -7,12 +7,12 @@ ghost use Rattle.al_uri.specs.Paths.{keys_of};
 ghost use Rattle.std.specs.Option.{option_copied};
 ghost use Rattle.std.specs.Prelude.{[], ◌∷◌};
 
-use al_base::cut::cut;
 use crate::escape::read_decoded;
 use crate::fault::UriFault;
 use crate::place::{Place, Way};
 use crate::target::Target;
 use crate::type_name::read_type;
+use al_base::cut::cut;
 use al_base::limits::{LONGEST_QUALIFIER, LONGEST_SHELF_NAME};
 use al_base::{List, Text, TypeId, read_text};
 use al_ids::{AlarmKey, Resource, read_resource};

@@ -3,11 +3,11 @@
 ghost use Rattle.al_uri.specs.Faults.{Answers};
 ghost use Rattle.al_uri.specs.Paths.{place_at, step};
 
-use al_base::cut::cut;
 use crate::escape::read_decoded;
 use crate::fault::UriFault;
 use crate::keys::read_keys;
 use crate::place::Place;
+use al_base::cut::cut;
 use std::alloc::Global;
 
 /// Where the path leads from the place. Its segments are judged from left to right, each for its escapes, its name and its keys.

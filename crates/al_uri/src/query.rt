@@ -5,13 +5,13 @@ ghost use Rattle.al_uri.specs.Queries.{after_part, from_value, insert_value, kno
 ghost use Rattle.std.specs.Option.{option_copied};
 ghost use Rattle.std.specs.Prelude.{◌≡◌};
 
-use al_base::cut::cut;
 use crate::escape::read_decoded;
 use crate::fault::UriFault;
 use crate::path;
 use crate::place::Place;
 use crate::target::Target;
 use al_base::Text;
+use al_base::cut::cut;
 use al_shelf::Spot;
 use std::alloc::Global;
 

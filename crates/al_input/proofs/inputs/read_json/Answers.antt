@@ -1,5 +1,5 @@
-use Rattle.al_restconf.proofs.Json.{json_is, json_is_not}
-use Rattle.al_restconf.proofs.body.read_json.Goals as goal
+use Rattle.al_input.proofs.Json.{json_is, json_is_not}
+use Rattle.al_input.proofs.inputs.read_json.Goals as goal
 
 pub returns-in-Ok : goal.returns-in-Ok
 returns-in-Ok c = json_is _ _ c.in-Ok.ensures.ok.0 c.in-Ok.ensures.ok.1
