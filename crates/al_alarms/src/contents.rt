@@ -294,7 +294,7 @@ impl Contents {
             { alarms = insert self.old.state.alarms place alarm.state } }
     {
         put_in_place(&alarm, place, &mut self.listed, &mut self.shelved);
-        // There is room for it, so no memory is taken.
+        // There is room for it, so it can't fail.
         let _ = self.alarms.insert(place, alarm);
     }
 

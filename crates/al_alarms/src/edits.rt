@@ -61,7 +61,7 @@ fn reserve_move(alarm: &mut Alarm, entry: &Option<OperatorEntry>) -> Result<(), 
     }
 }
 
-// ---- changes: each takes no memory, so that it can't fail
+// ---- changes: none can fail, whatever memory there is
 
 /// Changes the alarm at the place by a report.
 pub(crate) fn report_at(

@@ -1,4 +1,4 @@
-//! All alarms in the order of their keys, with the places of those of each side, and changes of them that take no memory.
+//! All alarms in the order of their keys, with the places of those of each side, and changes of them that can't fail.
 #![tactic(auto)]
 
 pub mod alarm;

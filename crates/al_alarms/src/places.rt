@@ -92,7 +92,7 @@ fn put_place(alarm: &Alarm, place: usize, listed: &mut Vec<usize>, shelved: &mut
     }
 }
 
-/// Sets the places of both sides anew. It takes no memory.
+/// Sets the places of both sides anew. It can't fail, whatever memory there is.
 pub(crate) fn set_sides(alarms: &[Alarm], listed: &mut Vec<usize>, shelved: &mut Vec<usize>)
     requires listed { length alarms.now ≤ vec_capacity listed.old }
     requires shelved { length alarms.now ≤ vec_capacity shelved.old }
@@ -142,12 +142,12 @@ fn put_in(places: &mut Vec<usize>, place: usize, is_here: bool)
     let at = places.as_slice().partition_point(|other| *other < place);
     move_up_from(places, at);
     if is_here {
-        // There is room for it, so no memory is taken.
+        // There is room for it, so it can't fail.
         let _ = places.insert(at, place);
     }
 }
 
-/// Puts in the place of a new alarm, and moves up the places behind it. It takes no memory.
+/// Puts in the place of a new alarm, and moves up the places behind it. It can't fail, whatever memory there is.
 pub(crate) fn put_in_place(
     alarm: &Alarm,
     place: usize,

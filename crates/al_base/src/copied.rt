@@ -33,7 +33,7 @@ impl<T: Copied> Copied for List<T> {
     }
 }
 
-// Stamps and words need no memory, so their copies never fail.
+// Copies of stamps and words can't fail.
 
 impl Copied for Stamp {
     fn copy(&self, _alloc: Global) -> Result<Stamp, AllocError>

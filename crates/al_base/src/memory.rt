@@ -2,8 +2,7 @@
 //!
 //! They take their memory when they are made, and none afterwards. Their calls are numbered from 1 over the life of the object.
 
-ghost use Rattle.std.specs.Prelude.{◌≡◌, ◌<◌, ◌≤◌, ◌+◌, ◌-◌, ℕ, true, false, Some, IfOk, IfSome, OnErr, All, List, [], ◌++◌, length, take, drop, min, unwrap_or, slice_get};
-ghost use Rattle.std.specs.Option.{option_map};
+ghost use Rattle.std.specs.Prelude.{◌≡◌, ◌<◌, ◌≤◌, ◌+◌, ◌-◌, true, false, Some, IfOk, OnErr, All, [], ◌++◌, length, take, drop, min, unwrap_or, slice_get};
 ghost use Rattle.std.specs.Io.KnownBytes.{Consumes, Appends, Keeps};
 ghost use Rattle.al_base.specs.Outside.{Rose, TellsEnd};
 ghost use Rattle.al_base.specs.Readings.{Readings, next_reading, after_reading};

@@ -1,7 +1,7 @@
 ghost use Rattle.std.specs.Option.{SomeIff};
 ghost use Rattle.std.specs.Prelude.{◌≡◌, ◌↔◌, ◌+◌, ◌-◌, ◌*◌, ◌<◌, ◌≤◌, ℕ, length, min, slice_index, IfSome, IsUtf8};
 ghost use Rattle.al_base.specs.Limits.{last_stamp};
-ghost use Rattle.al_base.specs.Times.{Day, day_after, digit as digit_of, stamp_text};
+ghost use Rattle.al_base.specs.Times.{day_after, digit as digit_of, stamp_text};
 
 use jiff_core::civil::Date;
 use std::marker::Model;

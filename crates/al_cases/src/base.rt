@@ -1,7 +1,7 @@
 //! Texts, names, stamps, lists and copies.
 
 use al_base::{
-    Copied, EventType, List, OperatorState, Severity, Stamp, Status, Text, TextFault, TypeFault,
+    Copied, EventType, List, OperatorState, Severity, Stamp, Status, Text, TextFault, FormFault,
     TypeId,
 };
 use std::alloc::{AllocError, Global};
@@ -41,7 +41,7 @@ fn reads_text(alloc: Global, bytes: &[u8], good: bool) -> bool {
 fn reads_type(alloc: Global, bytes: &[u8], good: bool) -> bool {
     match TypeId::read(alloc, bytes) {
         Ok(id) => good && id.bytes() == bytes,
-        Err(fault) => !good && fault == TypeFault::Form,
+        Err(fault) => !good && fault == FormFault::Form,
     }
 }
 

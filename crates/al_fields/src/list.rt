@@ -25,7 +25,7 @@ pub trait Series: Drop {
     fn value_at(&self, alloc: Global, i: usize) -> Result<Option<Value>, AllocError>
         ensures { IfOk result (λ value. option_map view value ≡ slice_get (trees self.now) i) };
 
-    /// Writes the element's compact text. It takes no memory.
+    /// Writes the element's compact text. It can't fail, whatever memory there is.
     fn put_at(&self, out: &mut Vec<u8>, i: usize)
         requires { vec_len out.old + length (text_of (slice_get (trees self.now) i))
             ≤ vec_capacity out.old }

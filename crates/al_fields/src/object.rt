@@ -66,7 +66,7 @@ fn object_value<P: Shown>(alloc: Global, fields: &[Field<P>]) -> Result<Value, A
     Ok(Value::Object(members))
 }
 
-/// Writes the text of the fields' object. It takes no memory.
+/// Writes the text of the fields' object. It can't fail, whatever memory there is.
 #[tactic(auto, using(crate::proofs::ObjectTexts::object_text))]
 fn put_object<P: Shown>(out: &mut Vec<u8>, fields: &[Field<P>])
     requires rising { AreRising (fields_by P.said fields.now) }

@@ -24,7 +24,7 @@ pub trait Shown: Drop {
     fn value(&self, alloc: Global) -> Result<Option<Value>, AllocError>
         ensures { IfOk result (λ value. option_map view value ≡ said self.now) };
 
-    /// Writes the value's compact text behind what is there. It takes no memory.
+    /// Writes the value's compact text behind what is there. It can't fail, whatever memory there is.
     fn put(&self, out: &mut Vec<u8>)
         requires { vec_len out.old + length (text_of (said self.now)) ≤ vec_capacity out.old }
         ensures items { out.new.items ≡ out.old.items ++ text_of (said self.now) }

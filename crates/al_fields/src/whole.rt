@@ -35,7 +35,7 @@ fn single(alloc: Global, name: &str, value: Value) -> Result<Value, AllocError>
     Ok(Value::Object(members))
 }
 
-/// Writes the text of that object, if there is one. It takes no memory.
+/// Writes the text of that object, if there is one. It can't fail, whatever memory there is.
 #[tactic(auto, using(crate::proofs::Steps::whole_text, crate::proofs::Steps::whole_absent))]
 pub fn put_whole<P: Shown>(out: &mut Vec<u8>, name: &str, piece: &P)
     requires { vec_len out.old + length (text_of (whole name.now (P.said piece.now)))

@@ -1,4 +1,4 @@
-//! Texts into room that is there. Nothing here takes memory.
+//! Texts into room that is there. Nothing here can fail.
 
 ghost use Rattle.al_base.specs.Times.{stamp_text};
 ghost use Rattle.al_fields.specs.Texts.{is_escaped};

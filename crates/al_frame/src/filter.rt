@@ -51,9 +51,7 @@ impl Field for Age {
 fn is_age(age: u64) -> bool
     ensures { result ≡ is_age_of age }
 {
-    AGE_UNITS
-        .iter()
-        .any(|unit| age % unit == 0 && age / unit <= u64::from(MOST_AGE_UNITS))
+    AGE_UNITS.iter().any(|unit| age % unit == 0 && age / unit <= u64::from(MOST_AGE_UNITS))
 }
 
 /// How an alarm's severity has to stand to another: 0 where nothing is asked.

@@ -4,7 +4,7 @@ ghost use Rattle.al_frame.specs.Formats.{Gives, checked, each_at, list, number, 
 ghost use Rattle.al_base.specs.Repeats.{repeats};
 ghost use Rattle.std.specs.Int.{to_be_bytes, w16};
 ghost use Rattle.std.specs.List.{list_all};
-ghost use Rattle.std.specs.Prelude.{◌≡◌, ◌≤◌, ◌+◌, ◌++◌, ◌<◌, ◌^◌, true, OnOk, length, min, nat_le};
+ghost use Rattle.std.specs.Prelude.{◌≡◌, ◌+◌, ◌++◌, ◌<◌, ◌^◌, true, OnOk, length, min, nat_le};
 
 use crate::fault::FrameFault;
 use crate::field::Field;

@@ -10,7 +10,7 @@ ghost use Rattle.al_pattern.specs.Reading.{first_fault};
 ghost use Rattle.std.proofs.Common.{rules};
 ghost use Rattle.std.specs.Bool.{◌==◌};
 ghost use Rattle.std.specs.Cmp.Rules.{comparing};
-ghost use Rattle.std.specs.Prelude.{◌≡◌, ◌≢◌, ◌⊎◌, ◌↔◌, ◌<◌, ◌≤◌, ℕ, Some, [], IfOk, IsOkUnless, IsTrue, MatchResult, length};
+ghost use Rattle.std.specs.Prelude.{◌≡◌, ◌⊎◌, ◌↔◌, ◌<◌, ℕ, Some, [], IfOk, IsOkUnless, IsTrue, MatchResult, length};
 ghost use lib.Pointwise.{pointwise};
 
 use crate::resource::{Kind, Resource};

@@ -5,8 +5,8 @@ ghost use Rattle.al_ids.specs.Matches.{HasPredicate, IsXPath, TakesPath, TakesSt
 ghost use Rattle.al_ids.specs.Paths.{IsPath, IsStep, Predicate, Step, path_text};
 ghost use Rattle.al_ids.specs.StepReading.{IsTail, behind_byte, behind_front, behind_names, front_of, is_inside, name_of, owner_of, parts_of};
 ghost use Rattle.std.specs.List.{AllByRecursion, AllZip, take_while};
-ghost use Rattle.std.specs.Option.{option_copied, option_map, option_or};
-ghost use Rattle.std.specs.Prelude.{◌≡◌, ◌↔◌, ◌<◌, ◌≤◌, ℕ, List, None, Some, IfSome, IsTrue, length};
+ghost use Rattle.std.specs.Option.{option_copied, option_map};
+ghost use Rattle.std.specs.Prelude.{◌≡◌, ◌↔◌, ◌<◌, ◌≤◌, List, None, Some, IfSome, IsTrue, length};
 
 use al_base::type_id::continues_identifier;
 

@@ -38,5 +38,5 @@ IsBodyFault tree bodies.Memory = ⊤
 
 -- The answer is what is read of the body's tree, where it has one.
 abbrev pub AnswersBody : Option Data → (Data → Result Asked InputFault) → Result (Result Asked InputFault) BodyFault → Type 0
-AnswersBody tree reads (Ok answer) = (data : Data) × (tree ≡ Some data) × Answers (reads data) answer
+AnswersBody tree reads (Ok answer) = (value : Data) × (tree ≡ Some value) × Answers (reads value) answer
 AnswersBody tree reads (Err fault) = IsBodyFault tree fault

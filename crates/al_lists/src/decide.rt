@@ -23,7 +23,7 @@ use al_select::{CompressFilter, PurgeFilter};
 use al_shelf::{Shelf, Shelves, Spot};
 use al_types::Row;
 
-/// What is to become of a request at a reading of the clock. It takes no memory: the event of a change has what the request has.
+/// What is to become of a request at a reading of the clock. It can't fail: the event of a change has what the request has.
 pub(crate) fn decide(contents: &Contents, request: Request, now: Stamp) -> Decision
     requires { IsValid contents.now.state }
     ensures { result ≡ decision_of contents.now.state request now }

@@ -17,7 +17,7 @@ use al_model::{Entry, Event, Reply};
 use al_notify::{Mode, NotifyRule};
 use al_shelf::{Shelf, Shelves};
 
-/// Whether the entry may come next. It takes no memory.
+/// Whether the entry may come next. It can't fail, whatever memory there is.
 pub(crate) fn fits(contents: &Contents, entry: &Entry) -> bool
     requires valid { IsValid contents.now.state }
     requires within { IsEntryWithin entry.now }

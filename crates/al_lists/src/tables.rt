@@ -174,14 +174,14 @@ impl Tables {
         }
     }
 
-    /// What is to become of a request at a reading of the clock. It takes no memory: the event of a change has what the request has.
+    /// What is to become of a request at a reading of the clock. It can't fail: the event of a change has what the request has.
     pub fn decide(&self, request: Request, now: Stamp) -> Decision
         ensures { result ≡ decision_of self.now.state request now }
     {
         decide(&self.contents, request, now)
     }
 
-    /// Whether the entry may come next. It takes no memory.
+    /// Whether the entry may come next. It can't fail, whatever memory there is.
     pub fn fits(&self, entry: &Entry) -> bool
         requires { IsEntryWithin entry.now }
         ensures { IsTrue result ↔ Fits self.now.state entry.now }
@@ -203,7 +203,7 @@ impl Tables {
         prepare(self.alloc, &mut self.contents, entry)
     }
 
-    /// Carries out the change that was prepared. It takes no memory and can't fail.
+    /// Carries out the change that was prepared. It can't fail.
     pub fn apply(&mut self, prepared: Prepared)
         requires { IsReady self.old prepared }
         ensures { self.new.state ≡ with_prepared self.old.state prepared }

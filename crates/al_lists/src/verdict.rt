@@ -5,7 +5,7 @@ use al_alarms::Contents;
 use al_base::Stamp;
 use al_model::{Refusal, Reply};
 
-/// What is to become of a request, all but the event that carries it out. It takes no memory.
+/// What is to become of a request, all but the event that carries it out. It can't fail, whatever memory there is.
 #[derive(Clone, Copy, Debug)]
 pub(crate) enum Verdict {
     /// It can't be carried out.

@@ -1,6 +1,5 @@
 use crate::event::Event;
-use al_base::Copied;
-use std::alloc::{AllocError, Global};
+use std::alloc::AllocError;
 use std::error::Error;
 use std::fmt;
 
@@ -123,27 +122,5 @@ impl Drop for Decision {
         match self {
             Decision::Refuse(_) | Decision::Same(_) | Decision::Change(_, _) => {}
         }
-    }
-}
-
-impl Copied for Reply {
-    fn copy(&self, _alloc: Global) -> Result<Reply, AllocError> {
-        Ok(*self)
-    }
-}
-
-impl Copied for Refusal {
-    fn copy(&self, _alloc: Global) -> Result<Refusal, AllocError> {
-        Ok(*self)
-    }
-}
-
-impl Copied for Decision {
-    fn copy(&self, alloc: Global) -> Result<Decision, AllocError> {
-        Ok(match self {
-            Decision::Refuse(refusal) => Decision::Refuse(*refusal),
-            Decision::Same(reply) => Decision::Same(*reply),
-            Decision::Change(event, reply) => Decision::Change(event.copy(alloc)?, *reply),
-        })
     }
 }

@@ -59,14 +59,14 @@ impl NoteLog {
         })
     }
 
-    /// Adds the next note, and lets go the oldest one where 4,096 are kept. It takes no memory.
+    /// Adds the next note, and lets go the oldest one where 4,096 are kept. It can't fail, whatever memory there is.
     pub fn append(&mut self, note: Note)
         requires { note.number ≡ self.old.sent + 1 }
         ensures { self.new ≡ logged note self.old }
     {
         make_room(&mut self.notes);
         self.sent = note.number;
-        // There is room for one, so no memory is taken.
+        // There is room for one, so it can't fail.
         let _ = self.notes.push_back(note);
     }
 

@@ -72,7 +72,7 @@ impl Pattern {
 
     /// Whether the whole text is in the language of the pattern.
     ///
-    /// The text is walked once. A step takes each node of the pattern once, and no memory is taken.
+    /// The text is walked once. A step takes each node of the pattern once. It can't fail.
     pub fn matches(&self, text: &[u8]) -> bool
         requires { IsUtf8 text.now }
         ensures language { IsTrue result ↔ IsInLanguage (tree_of self.now) (chars text.now) }

@@ -1,6 +1,6 @@
 //! One step of the walk over a text.
 
-ghost use Rattle.std.specs.Prelude.{◌≡◌, ◌≤◌, ◌<◌, ◌+◌, ℕ, List, Bool, [], ◌∷◌, length, map, drop};
+ghost use Rattle.std.specs.Prelude.{◌≡◌, ◌≤◌, ◌<◌, ◌+◌, List, Bool, [], ◌∷◌, length, map, drop};
 ghost use Rattle.al_pattern.specs.Sets.{Holds};
 ghost use Rattle.al_pattern.specs.Walk.{Seen, seen, begun, may_enter, behind_atom, at_bar, has_ended, takes_nothing, may_skip, may_repeat, run, emitted, FitsIn, free_after, Nests, Steps};
 

@@ -34,7 +34,7 @@ impl<E> Model for History<E> {
 }
 
 impl<E> History<E> {
-    /// A history without items. It takes no memory.
+    /// A history without items. It can't fail, whatever memory there is.
     pub fn new(alloc: Global, bound: Option<usize>) -> History<E>
         ensures items { result.items ≡ [] }
         ensures bound { result.bound ≡ bound }
@@ -89,7 +89,7 @@ impl<E> History<E> {
 }
 
 impl<E: Drop> History<E> {
-    /// Puts the item first, and lets go what is then past the bound. It takes no memory.
+    /// Puts the item first, and lets go what is then past the bound. It can't fail, whatever memory there is.
     pub fn add(&mut self, e: E)
         requires { 0 < self.old.spare }
         ensures items { self.new.items ≡ newest self.old.bound (e ∷ self.old.items) }

@@ -14,7 +14,7 @@ ghost use Rattle.al_base.specs.Limits.{most_shelves};
 ghost use Rattle.std.specs.Bool.{Decides};
 ghost use Rattle.std.specs.List.{insert};
 ghost use Rattle.std.specs.Option.{option_and_then};
-ghost use Rattle.std.specs.Prelude.{◌≡◌, ◌<◌, ◌≤◌, ℕ, List, Option, Some, length, position, slice_get};
+ghost use Rattle.std.specs.Prelude.{◌≡◌, ◌<◌, ◌≤◌, ℕ, List, Some, length, position, slice_get};
 
 /// With an inventory that `build` accepts, a shelf takes a key exactly where the test says so.
 pub fn takings_are_decided()

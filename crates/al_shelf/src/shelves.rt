@@ -39,7 +39,7 @@ impl Shelves {
     ghost use Rattle.al_shelf.specs.Takes.{IsFirstShelf};
     ghost use Rattle.al_shelf.specs.Taking.{first_shelf, takes};
 
-    /// No shelves. They take no memory.
+    /// No shelves.
     pub fn new(alloc: Global) -> Shelves
         ensures { result.shelves ≡ [] }
     {
@@ -118,7 +118,8 @@ impl Shelves {
         self.shelves.reserve(1)
     }
 
-    /// Puts the shelf at this position among those of other names, in place of the one that has its name. It takes no memory.
+    /// Puts the shelf at this position among those of other names, in place of the one that has its
+    /// name. It can't fail, whatever memory there is.
     pub fn put(&mut self, shelf: Shelf, at: usize)
         // There is room, or a shelf goes.
         requires room { (0 < self.old.spare) ⊎ IsSome (place_of shelf.name self.old.shelves) }
@@ -129,7 +130,7 @@ impl Shelves {
             ≡ self.old.spare + length self.old.shelves }
     {
         let _ = self.remove(&shelf.name);
-        // There is room for it, so no memory is taken.
+        // There is room for it, so it can't fail.
         let _ = self.shelves.insert(at, shelf);
     }
 

@@ -60,7 +60,7 @@ impl Inventory {
         })
     }
 
-    /// The inventory that declares nothing. It takes no memory.
+    /// The inventory that declares nothing. It can't fail, whatever memory there is.
     pub fn empty(alloc: Global) -> Inventory
         ensures { result ≡ no_inventory }
     {
