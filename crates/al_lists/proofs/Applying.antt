@@ -1,9 +1,9 @@
 -- What carrying out a change leaves as it was.
 use Rattle.std.proofs.Common.{◌≡◌, ℕ, refl}
 use Rattle.al_model.specs.State.{State}
-use Rattle.al_alarms.specs.Changes.{with_change}
-use Rattle.al_alarms.specs.declared.change.Change.{Change}
-use Rattle.al_alarms.specs.declared.change.Change.TheVariants as changes
+use Rattle.al_contents.specs.Changes.{with_change}
+use Rattle.al_contents.specs.declared.change.Change.{Change}
+use Rattle.al_contents.specs.declared.change.Change.TheVariants as changes
 
 -- A change alone sends no note.
 pub change_log : (time : ℕ) (change : Change) (s : State) → (with_change time change s).log ≡ s.log

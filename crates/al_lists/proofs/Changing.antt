@@ -28,7 +28,7 @@ use Rattle.al_base.specs.declared.operator.OperatorState.{OperatorState}
 use Rattle.al_model.specs.declared.decision.Refusal.TheVariants.{NoAlarm}
 use Rattle.al_model.specs.declared.event.Event.TheVariants as events
 use Rattle.al_model.specs.declared.request.Request.TheVariants as requests
-use Rattle.al_alarms.proofs.Sides.{find_side}
+use Rattle.al_contents.proofs.Sides.{find_side}
 use Rattle.al_model.proofs.Moves.{no_move, of_key}
 use Rattle.al_model.proofs.Order.{turned}
 use Rattle.al_model.proofs.Sames.{decides_max, decides_shelves}

@@ -22,10 +22,10 @@ use Rattle.al_select.specs.Filters.{compress_takes, purge_takes}
 use Rattle.al_select.specs.declared.compress.CompressFilter.{CompressFilter}
 use Rattle.al_select.specs.declared.purge.PurgeFilter.{PurgeFilter}
 use Rattle.al_lists.specs.Moves.{is_cut, is_in}
-use Rattle.al_alarms.specs.Views.{compressed, goes, is_at}
+use Rattle.al_contents.specs.Views.{compressed, goes, is_at}
 use Rattle.al_lists.proofs.Moving.{any_like}
 use Rattle.al_lists.proofs.Placing.{or_false}
-use Rattle.al_alarms.proofs.Sides.{at_is_on}
+use Rattle.al_contents.proofs.Sides.{at_is_on}
 
 -- ---- lists
 

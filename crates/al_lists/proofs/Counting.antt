@@ -19,9 +19,9 @@ use Rattle.al_model.specs.declared.event.Side.TheVariants as sides
 use Rattle.al_model.specs.declared.request.Request.TheVariants as requests
 use Rattle.al_model.proofs.Bounds.{length_filter}
 use Rattle.al_model.proofs.Validity.{marked_alarms}
-use Rattle.al_alarms.proofs.Positions.{length_states}
-use Rattle.al_alarms.proofs.Sides.{filter_like, marks_list, marks_shelve}
-use Rattle.al_alarms.specs.Views.{AlarmView, goes, is_at, loses, states}
+use Rattle.al_contents.proofs.Positions.{length_states}
+use Rattle.al_contents.proofs.Sides.{filter_like, marks_list, marks_shelve}
+use Rattle.al_contents.specs.Views.{AlarmView, goes, is_at, loses, states}
 use Rattle.al_lists.specs.Verdicts.{judged, room_for, verdict_at}
 use Rattle.al_lists.proofs.Judging.{plain_verdict}
 

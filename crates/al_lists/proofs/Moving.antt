@@ -13,12 +13,12 @@ use Rattle.al_model.specs.declared.event.Event.{Event}
 use Rattle.al_model.specs.declared.event.Side.{Side}
 use Rattle.al_model.specs.declared.event.Side.TheVariants as sides
 use Rattle.al_model.proofs.Sameness.{alarms_after}
-use Rattle.al_alarms.specs.Edits.{after_moves}
+use Rattle.al_contents.specs.Edits.{after_moves}
 use Rattle.al_lists.specs.Moves.{AddsMove, AreMoves, is_side, move_to, moves_by}
-use Rattle.al_alarms.specs.Views.{AlarmView, mark_of, states}
+use Rattle.al_contents.specs.Views.{AlarmView, mark_of, states}
 use Rattle.al_lists.specs.declared.prepare.moves.Moves.{Moves}
 use Rattle.al_lists.proofs.Placing.{or_false}
-use Rattle.al_alarms.proofs.Sides.{mark_is}
+use Rattle.al_contents.proofs.Sides.{mark_is}
 
 -- the moves are by the marks
 moves_are : (s after : State) (time : ℕ) (alarms : List AlarmState) → AllByRecursion (IsMarked s) alarms → map (moved s after time) alarms ≡ after_moves (map (move_to time (shelf_name after)) alarms) alarms

@@ -19,7 +19,7 @@ use Rattle.al_model.proofs.Living.{map-filter_map}
 use Rattle.al_model.proofs.Order.{turned}
 use Rattle.al_model.proofs.Sameness.{alarms_after}
 use Rattle.al_model.proofs.Touched.{life, untouched}
-use Rattle.al_alarms.specs.Edits.{at_place}
+use Rattle.al_contents.specs.Edits.{at_place}
 
 -- ---- alarms of other keys
 

@@ -45,13 +45,13 @@ use Rattle.al_model.proofs.Fitting.{fitting}
 use Rattle.al_model.proofs.Sameness.{step_is}
 use Rattle.al_model.proofs.Tools.{both_true, is_none_at, not_true}
 use Rattle.al_model.proofs.Validity.{marked_alarms, step_valid}
-use Rattle.al_alarms.specs.Changes.{with_change}
-use Rattle.al_alarms.specs.Edits.{HasAlarm, HaveRoom, after_moves, at_place}
-use Rattle.al_alarms.specs.Positions.{IsAbsentAt, IsKnownAt}
-use Rattle.al_alarms.specs.Tables.{TablesView}
-use Rattle.al_alarms.specs.Views.{AlarmView, is_at, is_marked, mark_of, marked}
-use Rattle.al_alarms.specs.declared.change.Change.TheVariants as kinds
-use Rattle.al_alarms.proofs.Sides.{mark_is}
+use Rattle.al_contents.specs.Changes.{with_change}
+use Rattle.al_contents.specs.Edits.{HasAlarm, HaveRoom, after_moves, at_place}
+use Rattle.al_contents.specs.Positions.{IsAbsentAt, IsKnownAt}
+use Rattle.al_contents.specs.Tables.{TablesView}
+use Rattle.al_contents.specs.Views.{AlarmView, is_at, is_marked, mark_of, marked}
+use Rattle.al_contents.specs.declared.change.Change.TheVariants as kinds
+use Rattle.al_contents.proofs.Sides.{mark_is}
 use Rattle.al_lists.specs.Moves.{AreMoves, first_name, is_cut, is_in}
 use Rattle.al_lists.specs.Prepared.{IsPreparedFor, with_prepared}
 use Rattle.al_lists.specs.Prepares.{Comes, Prepares, PreparesMoves, alarms_after, with_inventory, with_shelves}

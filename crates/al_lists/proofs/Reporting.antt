@@ -19,8 +19,8 @@ use Rattle.al_model.specs.declared.event.Side.{Side}
 use Rattle.al_model.proofs.Living.{all_live, found, none_of_both}
 use Rattle.al_model.proofs.Moves.{unmoved}
 use Rattle.al_model.proofs.Sameness.{alarms_after}
-use Rattle.al_alarms.specs.Edits.{at_place}
-use Rattle.al_alarms.specs.Positions.{IsAbsentAt, IsKnownAt}
+use Rattle.al_contents.specs.Edits.{at_place}
+use Rattle.al_contents.specs.Positions.{IsAbsentAt, IsKnownAt}
 use Rattle.al_lists.proofs.Placing.{IsOfOne, any_at, one_alarm, one_side, or_false, own_key}
 
 other_key : (key : AlarmKey) (x a : AlarmState) → x.key ≡ key → is_of x.key a ≡ false → is_of key a ≡ false

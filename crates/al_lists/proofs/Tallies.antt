@@ -14,9 +14,9 @@ use Rattle.al_model.specs.Summary.{counts_of, has_shelved, is_closed}
 use Rattle.al_model.specs.Validity.{IsValid}
 use Rattle.al_model.proofs.Bounds.{length_filter}
 use Rattle.al_model.proofs.Validity.{marked_alarms}
-use Rattle.al_alarms.proofs.Positions.{length_states}
-use Rattle.al_alarms.proofs.Sides.{listed_is, marks_shelve}
-use Rattle.al_alarms.specs.Views.{AlarmView, is_marked, is_unmarked, states}
+use Rattle.al_contents.proofs.Positions.{length_states}
+use Rattle.al_contents.proofs.Sides.{listed_is, marks_shelve}
+use Rattle.al_contents.specs.Views.{AlarmView, is_marked, is_unmarked, states}
 use Rattle.al_lists.specs.Summaries.{AreAtMost, counted, is_selected, row_of, selected, tallied, tally_of}
 use Rattle.al_lists.specs.declared.summary.Tally.{Tally}
 use Rattle.al_lists.proofs.Counting.{some_counted}

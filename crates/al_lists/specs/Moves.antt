@@ -12,7 +12,7 @@ use Rattle.al_model.specs.State.{AlarmState}
 use Rattle.al_model.specs.declared.entry.OperatorEntry.{OperatorEntry}
 use Rattle.al_model.specs.declared.event.Side.{Side}
 use Rattle.al_model.specs.declared.event.Side.TheVariants as sides
-use Rattle.al_alarms.specs.Views.{mark_of}
+use Rattle.al_contents.specs.Views.{mark_of}
 use Rattle.al_lists.specs.declared.prepare.moves.Moves.{Moves}
 
 -- ---- moves

@@ -4,8 +4,8 @@ use Rattle.al_model.specs.State.{State}
 use Rattle.al_model.specs.Step.{built, step}
 use Rattle.al_model.specs.Validity.{IsValid}
 use Rattle.al_model.specs.declared.entry.Entry.{Entry}
-use Rattle.al_alarms.specs.Changes.{HasRoom, with_change}
-use Rattle.al_alarms.specs.Tables.{TablesView}
+use Rattle.al_contents.specs.Changes.{HasRoom, with_change}
+use Rattle.al_contents.specs.Tables.{TablesView}
 use Rattle.al_lists.specs.declared.prepared.Prepared.{Prepared}
 
 -- the state with all that was prepared

@@ -11,9 +11,9 @@ use Rattle.al_model.specs.Step.{moved, note_of, touches_side}
 use Rattle.al_model.specs.Validity.{IsValid}
 use Rattle.al_model.specs.declared.event.Event.{Event}
 use Rattle.al_model.specs.declared.event.Side.TheVariants as sides
-use Rattle.al_alarms.specs.Changes.{HasRoom, with_change}
-use Rattle.al_alarms.specs.Edits.{after_moves}
-use Rattle.al_alarms.specs.Tables.{TablesView}
+use Rattle.al_contents.specs.Changes.{HasRoom, with_change}
+use Rattle.al_contents.specs.Edits.{after_moves}
+use Rattle.al_contents.specs.Tables.{TablesView}
 use Rattle.al_lists.specs.Moves.{move_to, moves_by}
 use Rattle.al_lists.specs.declared.prepared.Prepared.{Prepared}
 

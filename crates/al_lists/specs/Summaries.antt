@@ -5,7 +5,7 @@ use Rattle.al_base.specs.Names.{rank_of}
 use Rattle.al_base.specs.declared.severity.Severity.{Severity}
 use Rattle.al_model.specs.State.{AlarmState}
 use Rattle.al_model.specs.Summary.{is_closed}
-use Rattle.al_alarms.specs.Views.{is_unmarked}
+use Rattle.al_contents.specs.Views.{is_unmarked}
 use Rattle.al_lists.specs.declared.summary.Tally.{Tally}
 
 -- whether the alarm is on the list and of the severity

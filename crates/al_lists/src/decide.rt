@@ -9,11 +9,11 @@ ghost use Rattle.al_model.specs.Step.{is_news};
 ghost use Rattle.al_model.specs.Validity.{IsValid};
 ghost use Rattle.al_shelf.specs.Places.{place_for, place_of, without};
 ghost use Rattle.al_types.specs.Inventories.{InventoryView};
-ghost use Rattle.al_alarms.specs.Views.{goes, loses};
+ghost use Rattle.al_contents.specs.Views.{goes, loses};
 ghost use Rattle.al_lists.specs.Verdicts.{judged, room_for, row_refusal, verdict_at};
 
 use crate::verdict::{Verdict, judge, room};
-use al_alarms::{Alarm, Contents, if_at};
+use al_contents::{Alarm, Contents, if_at};
 use al_base::limits::{MOST_ALARMS, MOST_SHELVES};
 use al_base::{Severity, Stamp, Status, Text};
 use al_ids::AlarmKey;

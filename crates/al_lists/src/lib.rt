@@ -9,7 +9,7 @@ pub mod summary;
 pub mod tables;
 mod verdict;
 
-pub use al_alarms::Alarm;
+pub use al_contents::Alarm;
 pub use prepared::Prepared;
 pub use summary::Summary;
 pub use tables::Tables;

@@ -10,7 +10,7 @@ mod report;
 mod shelve;
 
 use crate::prepared::Prepared;
-use al_alarms::Contents;
+use al_contents::Contents;
 use al_model::{Entry, Event};
 use std::alloc::{AllocError, Global};
 

@@ -1,4 +1,4 @@
-use al_alarms::Change;
+use al_contents::Change;
 use al_base::Stamp;
 use al_notify::NoteBody;
 

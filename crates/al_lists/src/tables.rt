@@ -14,7 +14,7 @@ use crate::fits::fits;
 use crate::prepare::prepare;
 use crate::prepared::Prepared;
 use crate::summary::{Summary, rows};
-use al_alarms::{Alarm, Contents, if_at};
+use al_contents::{Alarm, Contents, if_at};
 use al_base::Stamp;
 use al_ids::AlarmKey;
 use al_model::{Decision, Entry, Request, Side};
@@ -33,7 +33,7 @@ pub struct Tables {
 
 impl Model for Tables {
     ghost use Rattle.al_model.specs.Validity.{IsValid};
-    ghost use Rattle.al_alarms.specs.Tables.{TablesView};
+    ghost use Rattle.al_contents.specs.Tables.{TablesView};
 
     ghost Value = { TablesView };
 

@@ -1,7 +1,7 @@
 ghost use Rattle.std.specs.Prelude.{◌≡◌};
 ghost use Rattle.al_lists.specs.Verdicts.{is_change, judged, room_for};
 
-use al_alarms::Contents;
+use al_contents::Contents;
 use al_base::Stamp;
 use al_model::{Refusal, Reply};
 

@@ -1,6 +1,6 @@
 -- The history and its tables, with the memory that they have at hand.
 use Rattle.std.specs.Prelude.{◌≡◌, ℕ, ◌+◌, ◌<◌, ◌≤◌, ◌^◌, Option, None, Some, List, Result, Ok, Err, length}
-use Rattle.al_alarms.specs.Tables.{TablesView}
+use Rattle.al_contents.specs.Tables.{TablesView}
 use Rattle.al_frame.specs.Frames.{frame_of}
 use Rattle.al_journal.specs.Views.{JournalView}
 use Rattle.al_lists.specs.Prepared.{IsPreparedFor}

@@ -2,12 +2,12 @@ ghost use Rattle.std.specs.List.{list_any};
 ghost use Rattle.std.specs.Prelude.{◌≡◌, ◌&&◌, IfOk};
 ghost use Rattle.al_model.specs.Validity.{IsValid};
 ghost use Rattle.al_model.specs.declared.event.Event.TheVariants as events;
-ghost use Rattle.al_alarms.specs.Views.{is_at, states};
+ghost use Rattle.al_contents.specs.Views.{is_at, states};
 ghost use Rattle.al_lists.specs.Moves.{is_cut, is_in};
 ghost use Rattle.al_lists.specs.Prepares.{Prepares, PreparesAnywhere};
 
 use crate::prepared::Prepared;
-use al_alarms::{Alarm, Change, Contents};
+use al_contents::{Alarm, Change, Contents};
 use al_base::{Copied, Stamp};
 use al_model::Side;
 use al_notify::NotifyRule;

@@ -4,10 +4,10 @@ ghost use Rattle.al_base.specs.Limits.{own_name};
 ghost use Rattle.al_model.specs.Alarms.{move_entry, own_entry};
 ghost use Rattle.al_model.specs.declared.event.Side.TheVariants as sides;
 ghost use Rattle.al_base.specs.Texts.{same_text};
-ghost use Rattle.al_alarms.specs.Views.{mark_of, states};
+ghost use Rattle.al_contents.specs.Views.{mark_of, states};
 ghost use Rattle.al_lists.specs.Moves.{first_name, is_move};
 
-use al_alarms::Alarm;
+use al_contents::Alarm;
 use al_base::{Copied, OperatorState, Stamp, Text};
 use al_ids::AlarmKey;
 use al_model::OperatorEntry;

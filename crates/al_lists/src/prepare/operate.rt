@@ -3,11 +3,11 @@ ghost use Rattle.al_model.specs.Alarms.{alarm_of};
 ghost use Rattle.al_model.specs.Validity.{IsInOrder, IsValid};
 ghost use Rattle.al_model.specs.declared.event.Event.TheVariants as events;
 ghost use Rattle.al_notify.specs.declared.note.NoteBody.TheVariants as notes;
-ghost use Rattle.al_alarms.specs.Positions.{IsKnownAt};
+ghost use Rattle.al_contents.specs.Positions.{IsKnownAt};
 ghost use Rattle.al_lists.specs.Prepares.{Comes, Prepares};
 
 use crate::prepared::Prepared;
-use al_alarms::{Change, Contents};
+use al_contents::{Change, Contents};
 use al_base::{Copied, OperatorState, Stamp, Text};
 use al_ids::AlarmKey;
 use al_model::OperatorEntry;

@@ -6,13 +6,13 @@ ghost use Rattle.al_model.specs.Validity.{IsValid, KeepsOne};
 ghost use Rattle.al_model.specs.declared.event.Event.TheVariants as events;
 ghost use Rattle.al_notify.specs.Rules.{sends};
 ghost use Rattle.al_notify.specs.declared.note.NoteBody.TheVariants as notes;
-ghost use Rattle.al_alarms.specs.Positions.{IsAbsentAt, IsKnownAt};
-ghost use Rattle.al_alarms.specs.Views.{is_marked};
+ghost use Rattle.al_contents.specs.Positions.{IsAbsentAt, IsKnownAt};
+ghost use Rattle.al_contents.specs.Views.{is_marked};
 ghost use Rattle.al_lists.specs.Prepares.{Comes, Prepares};
 
 use crate::prepare::moves::{first_name, installed_or, move_entry};
 use crate::prepared::Prepared;
-use al_alarms::{Alarm, Change, Contents};
+use al_contents::{Alarm, Change, Contents};
 use al_base::{Copied, Severity, Stamp, Status, Text};
 use al_ids::AlarmKey;
 use al_notify::{NoteBody, NotifyRule};

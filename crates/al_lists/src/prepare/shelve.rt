@@ -5,13 +5,13 @@ ghost use Rattle.al_model.specs.State.{inventory_of};
 ghost use Rattle.al_model.specs.Validity.{IsValid};
 ghost use Rattle.al_model.specs.declared.event.Event.TheVariants as events;
 ghost use Rattle.al_shelf.specs.Places.{without};
-ghost use Rattle.al_alarms.specs.Views.{states};
+ghost use Rattle.al_contents.specs.Views.{states};
 ghost use Rattle.al_lists.specs.Moves.{AreMoves, first_name};
 ghost use Rattle.al_lists.specs.Prepares.{Comes, Prepares, PreparesMoves, with_shelves};
 
 use crate::prepare::moves::{Moves, installed_or};
 use crate::prepared::Prepared;
-use al_alarms::{Change, Contents};
+use al_contents::{Change, Contents};
 use al_base::{Copied, Stamp, Text};
 use al_shelf::{Shelf, Shelves};
 use al_types::Inventory;

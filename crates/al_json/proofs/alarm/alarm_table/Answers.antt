@@ -4,7 +4,7 @@ use Rattle.std.specs.Prelude.{ℕ, Bool, List, Some, option_map}
 use Rattle.al_base.specs.Names.{severity_name}
 use Rattle.al_base.specs.declared.text.Text.{Text}
 use Rattle.al_ids.specs.declared.key.AlarmKey.{AlarmKey}
-use Rattle.al_alarms.proofs.Sides.{mark_is}
+use Rattle.al_contents.proofs.Sides.{mark_is}
 use Rattle.serde_json.specs.Data.{boolean, string}
 use Rattle.al_json.specs.Alarms.{created_on, event_type_of}
 use Rattle.al_json.specs.Histories.{moment}

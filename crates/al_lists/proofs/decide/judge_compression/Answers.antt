@@ -1,5 +1,5 @@
 use Rattle.std.proofs.Common.{◌∙◌}
-use Rattle.al_alarms.specs.Views.{AlarmView, loses}
+use Rattle.al_contents.specs.Views.{AlarmView, loses}
 use Rattle.al_lists.proofs.Counting.{compression_verdict, count_few}
 use Rattle.al_lists.proofs.decide.judge_compression.Goals as goal
 

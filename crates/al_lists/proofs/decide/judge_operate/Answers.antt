@@ -1,7 +1,7 @@
 use Rattle.std.proofs.Common.{Option, None, refl, sym, ap, ◌∙◌, true, false}
 use Rattle.std.specs.Option.{is_some, option_copied, option_map, option_or}
-use Rattle.al_alarms.proofs.Sides.{alarm_on, if_at, states_at}
-use Rattle.al_alarms.specs.Views.{AlarmView}
+use Rattle.al_contents.proofs.Sides.{alarm_on, if_at, states_at}
+use Rattle.al_contents.specs.Views.{AlarmView}
 use Rattle.al_model.specs.declared.decision.Refusal.{Refusal}
 use Rattle.al_model.specs.declared.decision.Refusal.TheVariants.{NoAlarm}
 use Rattle.al_model.specs.declared.decision.Reply.TheVariants.{Done}

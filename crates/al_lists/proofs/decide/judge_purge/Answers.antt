@@ -1,5 +1,5 @@
 use Rattle.std.proofs.Common.{◌∙◌}
-use Rattle.al_alarms.specs.Views.{AlarmView, goes}
+use Rattle.al_contents.specs.Views.{AlarmView, goes}
 use Rattle.al_lists.proofs.Counting.{count_few, purge_verdict}
 use Rattle.al_lists.proofs.decide.judge_purge.Goals as goal
 

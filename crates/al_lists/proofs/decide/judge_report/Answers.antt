@@ -6,7 +6,7 @@ use Rattle.al_model.specs.Alarms.{alarm_of}
 use Rattle.al_model.specs.Step.{is_news}
 use Rattle.al_model.specs.declared.decision.Reply.TheVariants.{Done}
 use Rattle.al_model.specs.declared.request.Request.TheVariants.{Report}
-use Rattle.al_alarms.specs.Views.{AlarmView}
+use Rattle.al_contents.specs.Views.{AlarmView}
 use Rattle.al_lists.specs.Verdicts.{judged}
 use Rattle.al_lists.proofs.Changing.{report_changes, report_makes}
 use Rattle.al_lists.proofs.Judging.{few_fit, none_by, none_copied, verdict_is}

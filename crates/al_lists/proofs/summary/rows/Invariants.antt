@@ -1,6 +1,6 @@
 use Rattle.std.proofs.Common.{◌≡◌, take}
 use Rattle.al_base.specs.declared.severity.Severity.TheVariants.{Indeterminate, Warning, Minor, Major, Critical}
-use Rattle.al_alarms.specs.Views.{states}
+use Rattle.al_contents.specs.Views.{states}
 use Rattle.al_lists.specs.Summaries.{selected, tally_of}
 use Rattle.al_lists.proofs.summary.rows.Given as goal
 

@@ -4,7 +4,7 @@ use Rattle.std.proofs.lemmas.Iterator.{YieldsList-from_slice}
 use Rattle.std.proofs.lemmas.Iterator.Search.{any_from_yields_List}
 use Rattle.al_model.specs.State.{AlarmState}
 use Rattle.al_model.proofs.Living.{any_map}
-use Rattle.al_alarms.specs.Views.{AlarmView, is_at}
+use Rattle.al_contents.specs.Views.{AlarmView, is_at}
 use Rattle.al_lists.specs.Moves.{is_cut}
 use Rattle.al_lists.proofs.prepare.choose.cuts.Goals as goal
 

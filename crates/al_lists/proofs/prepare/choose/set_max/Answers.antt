@@ -1,7 +1,7 @@
 use Rattle.std.proofs.Common.{◌&&◌, ap, ◌∙◌}
 use Rattle.std.specs.List.{list_any}
 use Rattle.al_model.specs.declared.event.Side.TheVariants as sides
-use Rattle.al_alarms.specs.Views.{is_at}
+use Rattle.al_contents.specs.Views.{is_at}
 use Rattle.al_lists.specs.Moves.{is_cut}
 use Rattle.al_lists.proofs.Preparing.{max_prepared}
 use Rattle.al_lists.proofs.prepare.choose.set_max.Goals as goal

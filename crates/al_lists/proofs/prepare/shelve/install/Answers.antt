@@ -1,7 +1,7 @@
 use Rattle.std.proofs.Common.{subst, sym}
 use Rattle.al_model.specs.Validity.{IsValid}
-use Rattle.al_alarms.specs.Edits.{HaveRoom}
-use Rattle.al_alarms.specs.Views.{states}
+use Rattle.al_contents.specs.Edits.{HaveRoom}
+use Rattle.al_contents.specs.Views.{states}
 use Rattle.al_lists.proofs.Preparing.{install_prepared, inventory_prepared}
 use Rattle.al_lists.proofs.prepare.shelve.install.Goals as goal
 

@@ -1,5 +1,5 @@
 use Rattle.std.proofs.Common.{subst}
-use Rattle.al_alarms.specs.Edits.{HaveRoom}
+use Rattle.al_contents.specs.Edits.{HaveRoom}
 use Rattle.al_lists.proofs.Preparing.{shelves_prepared}
 use Rattle.al_lists.proofs.prepare.shelve.reshelve.Goals as goal
 

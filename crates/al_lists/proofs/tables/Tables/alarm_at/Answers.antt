@@ -1,7 +1,7 @@
 use Rattle.std.proofs.Common.{ap, ◌∙◌}
 use Rattle.std.specs.List.{slice_get}
 use Rattle.al_model.specs.State.{listed}
-use Rattle.al_alarms.proofs.Sides.{listed_is}
+use Rattle.al_contents.proofs.Sides.{listed_is}
 use Rattle.al_lists.proofs.tables.Tables.alarm_at.Goals as goal
 
 pub returns : goal.returns

@@ -1,6 +1,6 @@
 use Rattle.std.proofs.Common.{ap, ◌∙◌, length}
 use Rattle.al_model.specs.State.{listed}
-use Rattle.al_alarms.proofs.Sides.{listed_is}
+use Rattle.al_contents.proofs.Sides.{listed_is}
 use Rattle.al_lists.proofs.tables.Tables.alarms.Goals as goal
 
 pub returns : goal.returns

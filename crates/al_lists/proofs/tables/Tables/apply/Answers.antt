@@ -1,7 +1,7 @@
 use Rattle.std.proofs.Common.{◌+◌, ◌<◌, ◌^◌, IfSome, ap, sym, subst, ◌∙◌}
 use Rattle.al_model.specs.Step.{built}
 use Rattle.al_model.specs.Validity.{IsValid}
-use Rattle.al_alarms.specs.Changes.{HasRoom}
+use Rattle.al_contents.specs.Changes.{HasRoom}
 use Rattle.al_lists.specs.Prepared.{with_prepared}
 use Rattle.al_lists.proofs.Applying.{change_log}
 use Rattle.al_lists.proofs.tables.Tables.apply.Goals as goal

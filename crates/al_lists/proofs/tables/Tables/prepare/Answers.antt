@@ -3,7 +3,7 @@ use Rattle.std.proofs.lemmas.Result.{IfOk-weaker}
 use Rattle.al_model.specs.History.{Fits}
 use Rattle.al_model.specs.State.{State}
 use Rattle.al_model.specs.Validity.{IsValid}
-use Rattle.al_alarms.specs.Tables.{TablesView}
+use Rattle.al_contents.specs.Tables.{TablesView}
 use Rattle.al_lists.proofs.Preparing.{prepared_for}
 use Rattle.al_lists.proofs.tables.Tables.prepare.Goals as goal
 

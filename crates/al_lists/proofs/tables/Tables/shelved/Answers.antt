@@ -3,8 +3,8 @@ use Rattle.std.specs.Option.{option_copied, option_map}
 use Rattle.al_model.specs.Alarms.{alarm_of}
 use Rattle.al_model.specs.State.{shelved}
 use Rattle.al_model.specs.declared.event.Side.TheVariants as sides
-use Rattle.al_alarms.specs.Views.{AlarmView}
-use Rattle.al_alarms.proofs.Sides.{alarm_on, if_at, states_at}
+use Rattle.al_contents.specs.Views.{AlarmView}
+use Rattle.al_contents.proofs.Sides.{alarm_on, if_at, states_at}
 use Rattle.al_lists.proofs.tables.Tables.shelved.Goals as goal
 
 pub find-requires : goal.find-requires

@@ -1,6 +1,6 @@
 use Rattle.std.proofs.Common.{ap, ◌∙◌, length}
 use Rattle.al_model.specs.State.{shelved}
-use Rattle.al_alarms.proofs.Sides.{shelved_is}
+use Rattle.al_contents.proofs.Sides.{shelved_is}
 use Rattle.al_lists.proofs.tables.Tables.shelved_count.Goals as goal
 
 pub returns : goal.returns

@@ -1,7 +1,7 @@
 use Rattle.std.proofs.Common.{◌≡◌, ◌<◌, length, refl, take, arith, ap, sym, subst, ◌∙◌}
 use Rattle.std.proofs.lemmas.Option.{slice_get_read}
 use Rattle.std.specs.Option.{option_copied}
-use Rattle.al_alarms.specs.Views.{states}
+use Rattle.al_contents.specs.Views.{states}
 use Rattle.al_lists.specs.Moves.{AddsMove, AreMoves, first_name}
 use Rattle.al_lists.proofs.Moving.{moves_more, take_more}
 use Rattle.al_lists.proofs.prepare.moves.Moves.to.Goals as goal

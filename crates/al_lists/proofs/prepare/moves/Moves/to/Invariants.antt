@@ -1,5 +1,5 @@
 use Rattle.std.proofs.Common.{take}
-use Rattle.al_alarms.specs.Views.{states}
+use Rattle.al_contents.specs.Views.{states}
 use Rattle.al_lists.specs.Moves.{AreMoves, first_name}
 use Rattle.al_lists.proofs.prepare.moves.Moves.to.Given as goal
 

@@ -1,6 +1,0 @@
-use Rattle.std.proofs.Common.{◌≡◌, suc}
-use Rattle.al_alarms.proofs.Editing.{done_to}
-use Rattle.al_alarms.proofs.places.move_up.Given as goal
-
-abbrev pub invariant-loop-place : goal.invariant-loop-place
-invariant-loop-place l = l.places ≡ done_to suc l.place-index l.fn.places
