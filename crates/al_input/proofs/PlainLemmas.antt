@@ -1,5 +1,5 @@
 -- What is found in the members of a report whose members are texts, and how they are read.
-use Rattle.std.proofs.Common.{◌≡◌, inl, inr, ◌<◌, ◌≤◌, ◌-◌, ℕ, true, false, Option, None, Some, option_map, Result, Ok, Err, List, [], ◌∷◌, length, Ordering, Less, Equal, Greater, is_eq, refl, subst, sym, ap, ◌∙◌, arith, unwrap_or}
+use Rattle.std.proofs.Common.{◌≡◌, inl, inr, ◌<◌, ◌≤◌, ◌-◌, ℕ, true, false, Option, None, Some, option_map, Result, Ok, List, [], ◌∷◌, length, Ordering, Less, Equal, Greater, is_eq, refl, subst, sym, ap, ◌∙◌, arith, unwrap_or}
 use Rattle.std.specs.Cmp.Lexicographic.{slice_cmp}
 use Rattle.std.specs.List.{list_all}
 use Rattle.std.specs.Ordering.{match_ordering, nat_cmp}
@@ -10,21 +10,16 @@ use Rattle.json.specs.Json.{members, parse_map, read_key, value}
 use Rattle.json.specs.Lex.{tokens}
 use Rattle.json.specs.Token.{Token}
 use Rattle.json.proofs.Grammar.{members_end, members_more, read_key-shorter, value-begin_object, value_is}
-use Rattle.al_base.specs.Limits.{is_text}
-use Rattle.al_base.specs.Names.{status_name, statuses}
 use Rattle.al_model.specs.declared.request.Request.{Request}
 use Rattle.al_input.specs.Faults.{Answers}
-use Rattle.al_input.specs.Inputs.{body, report, report_members, report_names, report_qualifier, report_resource, report_status, report_text, report_type}
+use Rattle.al_input.specs.Inputs.{body, report, report_members, report_names}
 use Rattle.al_input.specs.Members.{is_among, known_only, names_in, one_of, optional, read_some, required, value_at}
 use Rattle.al_input.specs.Plain.{NamesInput, given, input_tree, members_at, texts, tree_of, whole_value}
 use Rattle.al_input.specs.Reports.{text_at}
 use Rattle.al_input.specs.declared.report.Member.TheVariants.{Resource, TypeId, Severity, AlarmText, Qualifier}
 use Rattle.al_input.specs.Readers.{string_of}
 use Rattle.al_input.specs.declared.fault.InputFault.{InputFault}
-use Rattle.al_input.specs.declared.fault.InputFault.TheVariants.{BadValue, Missing}
-use Rattle.al_base.specs.Identifiers.{is_type_name}
-use Rattle.al_base.specs.Answers.{and_then, or_fault}
-use Rattle.al_uri.specs.TypeNames.{with_module}
+use Rattle.al_base.specs.Answers.{and_then}
 use Rattle.serde_json.specs.Data.{Data, object, string, Members, no_members, member, put}
 use Rattle.serde_json.specs.Find.{get_member}
 use Rattle.serde_json.specs.Read.{converted, of_json, of_members, read}

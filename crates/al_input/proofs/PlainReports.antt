@@ -1,5 +1,5 @@
 -- A report whose members are texts asks what its body asks.
-use Rattle.std.proofs.Common.{◌≡◌, IsUtf8, Some, Result, Ok, Err, List, ℕ, refl, ap}
+use Rattle.std.proofs.Common.{◌≡◌, IsUtf8, Some, Result, Ok, Err, List, ℕ, ap}
 use Rattle.std.proofs.lemmas.Str.{is_utf8-from_IsUtf8}
 use Rattle.std.specs.Prelude.{codes}
 use Rattle.al_input.specs.Bodies.{AnswersBody, data_of, json_of}

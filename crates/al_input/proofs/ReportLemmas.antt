@@ -5,11 +5,10 @@ use Rattle.al_base.specs.Answers.{and_then, or_fault}
 use Rattle.al_base.specs.Identifiers.{is_type_name}
 use Rattle.al_base.specs.Limits.{is_text, longest_alarm_text, longest_qualifier, longest_resource}
 use Rattle.al_base.specs.Names.{status_name, statuses}
-use Rattle.al_base.specs.declared.severity.Status.{Status}
 use Rattle.al_uri.specs.TypeNames.{with_module}
 use Rattle.serde_json.specs.Data.{Data}
 use Rattle.al_input.specs.Inputs.{report_qualifier, report_resource, report_status, report_text, report_type}
-use Rattle.al_input.specs.Members.{optional, read_some, required, value_at, with_default}
+use Rattle.al_input.specs.Members.{optional, read_some, required, value_at}
 use Rattle.al_input.specs.Readers.{passed, string_of, text, type_name, word, word_of}
 use Rattle.al_input.specs.Reports.{needed_at, text_at}
 use Rattle.al_input.specs.declared.fault.InputFault.{InputFault}

@@ -15,6 +15,7 @@ use Rattle.al_base.specs.declared.severity.Severity.TheVariants.{Indeterminate, 
 use Rattle.al_ids.specs.Matches.{IsMatch}
 use Rattle.al_ids.specs.declared.key.AlarmKey.{AlarmKey}
 use Rattle.al_model.specs.Limits.{IsPatternWithin, IsTypeMatchWithin, IsShelfWithin, IsPurgeWithin, IsCompressWithin, IsIdentityWithin, IsRowWithin, IsInventoryWithin, IsRequestWithin}
+use Rattle.al_ids.specs.Limits.{IsKeyWithin}
 use Rattle.al_shelf.specs.Limits.{IsSpotWithin}
 use Rattle.al_base.specs.Operators.{IsOperators, is_operators}
 use Rattle.al_model.specs.declared.event.Side.{Side}
@@ -26,7 +27,6 @@ use Rattle.al_shelf.specs.Exact.{same_type_match_decides}
 use Rattle.al_shelf.specs.Same.{same_type_match}
 use Rattle.al_shelf.specs.declared.shelf.TypeMatch.{TypeMatch}
 use Rattle.al_shelf.specs.declared.spot.Spot.{Spot}
-use Rattle.al_shelf.specs.declared.spot.Spot.TheVariants.{First, Last, Before, After, Keep}
 use Rattle.al_types.proofs.SoundTests.{decides_sound}
 use Rattle.al_types.specs.Sound.{is_sound}
 use Rattle.al_types.specs.declared.row.Identity.{Identity}
@@ -151,22 +151,15 @@ body_within : (wanted : Option (List ℕ)) (d : Data) → IfOk (shelf_body wante
 unfolding shelf_body
 body_within wanted d = ok_then IsShelfWithin (body (codes "shelf") (codes "ietf-alarms:shelf") only d) (shelf wanted) (λ s _. shelf_within wanted s)
 
-spot_within : (spot : Spot) → uri.IsSpotWithin spot → IsSpotWithin spot
-spot_within First h = tt
-spot_within Last h = tt
-spot_within (Before point) h = h
-spot_within (After point) h = h
-spot_within Keep h = tt
-
-creation_within : (spot : Spot) (d : Data) → uri.IsSpotWithin spot → IfOk (creation_input spot d) IsAskedWithin
+creation_within : (spot : Spot) (d : Data) → IsSpotWithin spot → IfOk (creation_input spot d) IsAskedWithin
 unfolding creation_input IsRequestWithin
 creation_within spot d h =
-    ok_whole IsShelfWithin (λ made. requests.CreateShelf made spot) (shelf_body None d) (λ made k. record { shelf_within = k; spot_within = spot_within spot h }) (body_within None d)
+    ok_whole IsShelfWithin (λ made. requests.CreateShelf made spot) (shelf_body None d) (λ made k. record { shelf_within = k; spot_within = h }) (body_within None d)
 
-put_within : (name : List ℕ) (spot : Spot) (d : Data) → uri.IsSpotWithin spot → IfOk (shelf_input name spot d) IsAskedWithin
+put_within : (name : List ℕ) (spot : Spot) (d : Data) → IsSpotWithin spot → IfOk (shelf_input name spot d) IsAskedWithin
 unfolding shelf_input IsRequestWithin
 put_within name spot d h =
-    ok_whole IsShelfWithin (λ made. requests.PutShelf made spot) (shelf_body (Some name) d) (λ made k. record { shelf_within = k; spot_within = spot_within spot h }) (body_within (Some name) d)
+    ok_whole IsShelfWithin (λ made. requests.PutShelf made spot) (shelf_body (Some name) d) (λ made k. record { shelf_within = k; spot_within = h }) (body_within (Some name) d)
 
 -- ---- what an operator says
 
@@ -194,7 +187,7 @@ said_within d =
       ok_value (λ o. IfSome o IsOperatorText) _ said (ok_optional IsOperatorText (codes "text") (codes "ietf-alarms:text") (text 0 255) (ok_text 0 255) d) is_said,
     ))))
 
-action_within : (key : AlarmKey) (d : Data) → uri.IsKeyWithin key → IfOk (action_input key d) IsAskedWithin
+action_within : (key : AlarmKey) (d : Data) → IsKeyWithin key → IfOk (action_input key d) IsAskedWithin
 unfolding action_input
 action_within key d h =
     ok_then IsAskedWithin (body (codes "input") (codes "ietf-alarms:input") action d) (λ said. Ok (Operate key said.0 said.1)) (λ said is_said.

@@ -1,5 +1,5 @@
 -- What the body of a request asks, resource by resource. The members of an object are judged in the order in which they are written here.
-use Rattle.std.specs.Prelude.{⊤, ℕ, zero, suc, ◌+◌, ◌*◌, ◌==◌, Bool, true, false, if◌then◌else◌, Option, None, Some, Result, Ok, Err, List, [], ◌∷◌, codes, count_by}
+use Rattle.std.specs.Prelude.{⊤, ℕ, zero, suc, ◌+◌, ◌*◌, ◌==◌, Bool, true, if◌then◌else◌, Option, None, Some, Result, Ok, Err, List, [], ◌∷◌, codes, count_by}
 use Rattle.std.specs.Cmp.Lexicographic.{pointwise}
 use Rattle.std.specs.Option.{option_map}
 use Rattle.al_base.specs.Limits.{longest_alarm_text, longest_description, longest_operator_name, longest_operator_text, longest_qualifier, longest_resource, longest_shelf_name, most_identities, most_row_resources, most_rows, most_shelf_resources, most_shelf_types, most_status_changes}
@@ -7,7 +7,6 @@ use Rattle.al_base.specs.Names.{event_type_name, event_types, rank_of, severitie
 use Rattle.al_base.specs.declared.event_type.EventType.{EventType}
 use Rattle.al_base.specs.declared.event_type.EventType.TheVariants.{Other}
 use Rattle.al_base.specs.declared.operator.OperatorState.{OperatorState}
-use Rattle.al_base.specs.declared.operator.OperatorState.TheVariants.{None0, Ack, Closed, Shelved, UnShelved}
 use Rattle.al_base.specs.declared.severity.Severity.{Severity}
 use Rattle.al_base.specs.declared.severity.Status.{Status}
 use Rattle.al_base.specs.declared.severity.Severity.TheVariants.{Indeterminate, Warning, Minor, Major, Critical}

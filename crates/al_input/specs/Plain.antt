@@ -1,14 +1,9 @@
 -- Reports whose members are texts: what they say, and the trees that their bodies stand for.
-use Rattle.std.specs.Prelude.{◌≡◌, ◌⊎◌, ℕ, Option, None, Some, option_and_then, option_copied, List, [], Result, Ok, codes}
-use Rattle.al_base.specs.Limits.{is_text, longest_qualifier}
-use Rattle.al_base.specs.Answers.{and_then, or_fault}
+use Rattle.std.specs.Prelude.{◌≡◌, ◌⊎◌, ℕ, Option, None, Some, option_and_then, option_copied, List, codes}
 use Rattle.json.specs.Json.{Json, if_last, members, value}
 use Rattle.json.specs.Token.{Token}
 use Rattle.serde_json.specs.Read.{converted, max_depth, of_json, of_members}
 use Rattle.serde_json.specs.Data.{Data, object, string, Members, no_members, member}
-use Rattle.al_input.specs.Readers.{passed}
-use Rattle.al_input.specs.declared.fault.InputFault.{InputFault}
-use Rattle.al_input.specs.declared.fault.InputFault.TheVariants.{Missing}
 use Rattle.al_input.specs.declared.plain.Said.{Said}
 
 -- with this member before the others, where it is there

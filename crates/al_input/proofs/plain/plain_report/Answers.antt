@@ -13,7 +13,7 @@ returns-clause-exact c =
     let same : c.in-Ok.text.now ≡ bytes = search rules in
     let utf8 : IsUtf8 bytes = search rules in
     let tree : tree_of (tokens bytes) ≡ Some (input_tree found.0 ms) = ap (λ t. tree_of (tokens t)) (sym same) ∙ ap tree_of (sym c.in-Ok-new.ensures.ok) ∙ found.2 in
-    answered bytes found.0 ms c.request.result utf8 found.1 tree c.request.ensures
+    answered bytes found.0 ms c.report.result utf8 found.1 tree c.report.ensures
 
 pub returns-clause-within : goal.returns-clause-within
 returns-clause-within c =
@@ -23,5 +23,5 @@ returns-clause-within c =
     let same : c.in-Ok.text.now ≡ bytes = search rules in
     let utf8 : IsUtf8 bytes = search rules in
     let tree : tree_of (tokens bytes) ≡ Some (input_tree found.0 ms) = ap (λ t. tree_of (tokens t)) (sym same) ∙ ap tree_of (sym c.in-Ok-new.ensures.ok) ∙ found.2 in
-    let said = answered bytes found.0 ms c.request.result utf8 found.1 tree c.request.ensures in
-    plain_within said.0 c.request.result said.3
+    let said = answered bytes found.0 ms c.report.result utf8 found.1 tree c.report.ensures in
+    plain_within said.0 c.report.result said.3
