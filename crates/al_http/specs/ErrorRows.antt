@@ -66,13 +66,6 @@ rejection_row HeadTooBig = 2
 rejection_row BodyTooBig = 3
 rejection_row Unimplemented = 4
 
--- the rows that the code names, by their numbers
-abbrev pub no_such_path : ℕ
-no_such_path = 5
-
-abbrev pub bad_value : ℕ
-bad_value = 15
-
 -- the row of a number from 1 to 29
 abbrev pub error_row : ℕ → ErrorRow
 error_row number = slice_index_or error_rows (number - 1) (transport 400 [] [])

@@ -6,7 +6,7 @@ use Rattle.httparse.specs.Grammar.{RequestHead}
 use Rattle.httparse.specs.Spans.{IsRequestWithin, IsRequestAt}
 use Rattle.al_http.specs.Requests.{fields_of, framing_of, IsHead}
 
--- the block is a head with its parts at those places, and frames a body of that size
+-- the block is a head with its parts at those spans, and frames a body of that size
 pub record ReadsHead (block : List ℕ) (spans : List HeaderSpan) (head : RequestSpans) (size : ℕ) : Type 0 where
   pub within : IsRequestWithin block spans head
   pub whole : head.len ≡ length block

@@ -5,12 +5,6 @@ ghost use Rattle.al_http.specs.ErrorRows.{IsErrorRow, error_row as row_of, trans
 ghost use Rattle.al_http.specs.Phrases.{HasPhrase};
 ghost use Rattle.al_http.specs.Told.{told};
 
-/// The number of the refusal `no such path`.
-pub const NO_SUCH_PATH: u8 = 5;
-
-/// The number of the refusal `bad value`.
-pub const BAD_VALUE: u8 = 15;
-
 /// What a refusal tells: its status, and the parts of its body (RFC 8040, section 7.1).
 #[derive(Clone, Copy)]
 pub struct ErrorRow {

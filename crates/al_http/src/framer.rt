@@ -82,7 +82,7 @@ impl Framer {
     pub fn next<S: Source>(&mut self, source: &mut S) -> Result<Option<HttpRequest<'_>>, Stop>
         ensures* moves { sem 𝓛 (Rests the_row self.entry (λ new.
             Moves (stream_of self.old (S.left source.old)) (stream_of new (S.left source.new))
-                result)) }
+            result)) }
         ensures later { S.faults source.old ≤ S.faults source.new }
         ensures cause { result ≡ Err Stop.ReadFault
             → Rose (S.faults source.old) (S.faults source.new) }

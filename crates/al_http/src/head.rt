@@ -186,7 +186,7 @@ fn has_many_lines(block: &[u8]) -> bool
 fn parse_head(block: &[u8], spans: &mut [HeaderSpan]) -> Option<RequestSpans>
     requires is_block { IsBlock block.now }
     requires short { length block.now ≤ 16384 }
-    requires places { length spans.old ≡ 64 }
+    requires spans { length spans.old ≡ 64 }
     ensures within { IfSome result (λ head. IsRequestWithin block.now spans.new head
         × (head.len ≡ length block.now)) }
     ensures found { IfSome result (λ head. (tree : RequestHead) × IsHead block.now tree
@@ -207,7 +207,7 @@ pub(crate) fn read_head(
 ) -> Result<(RequestSpans, usize), Rejection>
     requires is_block { IsBlock block.now }
     requires short { length block.now ≤ 16384 }
-    requires places { length spans.old ≡ 64 }
+    requires spans { length spans.old ≡ 64 }
     ensures reads { IfOk result (λ found. ReadsHead block.now spans.new found.0 found.1) }
     ensures rejects { IfErr result (λ rejection. RejectsBlock rejection block.now) }
 {

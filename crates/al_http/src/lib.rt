@@ -19,7 +19,6 @@ mod sending;
 pub mod service;
 pub mod stream;
 
-pub use error_row::{BAD_VALUE, NO_SUCH_PATH};
 pub use framer::{Framer, Stop};
 pub use member::{has_member, trimmed};
 pub use rejection::Rejection;

@@ -25,7 +25,7 @@ pub struct HttpRequest<'a> {
 impl<'a> HttpRequest<'a> {
     ghost use Rattle.al_http.specs.Shown.{message_of, message_at};
 
-    /// The request whose head is the block, with its parts at those places.
+    /// The request whose head is the block, with its parts at those spans.
     pub(crate) fn of(
         block: &'a [u8],
         headers: &'a [HeaderSpan],
