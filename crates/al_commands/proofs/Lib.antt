@@ -1,8 +1,10 @@
 mod Asking
+mod Colons
 mod Digits
 mod Drilling
 mod Keeping
 mod Lines
 mod Numbers
+mod OneServe
 mod Rows
 mod Texts

@@ -4,7 +4,7 @@ ghost use Rattle.std.specs.Prelude.{◌≡◌, ◌≢◌, ◌≤◌, ◌++◌};
 ghost use Rattle.al_base.specs.Outside.{Rose};
 ghost use Rattle.al_commands.specs.Commands.{HasChecked};
 ghost use Rattle.al_commands.specs.Lines.{Tells, check_lines, counts_text, fault_line, line_end};
-ghost use Rattle.al_commands.specs.Statuses.{status_done, status_of_fault, status_read_fault, status_write_fault};
+ghost use Rattle.al_commands.specs.Statuses.{status_of_fault, status_read_fault, status_write_fault};
 
 use crate::line::{Count, tell, tell_counts};
 use crate::status::{DISK_FAULT, DONE, INVALID, JOURNAL, OUT_OF_MEMORY};
@@ -16,9 +16,14 @@ use std::alloc::Global;
 
 /// Opens the journal on the disk and tells what there is in it, or why it isn't opened.
 pub fn run_check<D: Disk, O: Sink>(alloc: Global, disk: D, sink: &mut O) -> (u8, D)
-    ensures checked { HasChecked (record { old_disk = D.told disk; new_disk = D.told result.1;
-        old_faults = D.faults disk; new_faults = D.faults result.1; old_output = O.held sink.old;
-        new_output = O.held sink.new }) result.0 }
+    ensures checked { HasChecked (record {
+      old_disk = D.told disk;
+      new_disk = D.told result.1;
+      old_faults = D.faults disk;
+      new_faults = D.faults result.1;
+      old_output = O.held sink.old;
+      new_output = O.held sink.new;
+    }) result.0 }
     ensures write_fault { result.0 ≡ status_write_fault
         → Rose (O.faults sink.old) (O.faults sink.new) }
     ensures other { result.0 ≢ status_read_fault }

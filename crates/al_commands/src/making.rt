@@ -16,9 +16,14 @@ use al_journal::{BirthFault, birth};
 /// Makes an empty journal of this capacity on the disk, and tells how that ended.
 pub fn run_init<D: Disk, O: Sink>(capacity: u64, mut disk: D, sink: &mut O) -> (u8, D)
     requires { IsCapacity capacity }
-    ensures made { HasMade capacity (record { old_disk = D.told disk; new_disk = D.told result.1;
-        old_faults = D.faults disk; new_faults = D.faults result.1; old_output = O.held sink.old;
-        new_output = O.held sink.new }) result.0 }
+    ensures made { HasMade capacity (record {
+      old_disk = D.told disk;
+      new_disk = D.told result.1;
+      old_faults = D.faults disk;
+      new_faults = D.faults result.1;
+      old_output = O.held sink.old;
+      new_output = O.held sink.new;
+    }) result.0 }
     ensures write_fault { result.0 ≡ status_write_fault
         → Rose (O.faults sink.old) (O.faults sink.new) }
     ensures other { result.0 ≢ status_read_fault }

@@ -23,7 +23,10 @@ use std::alloc::Global;
 const USAGE: &[u8] =
     b"usage: alarmd init JOURNAL CAPACITY / session JOURNAL / check JOURNAL / drill SEED COUNT / serve JOURNAL ADDRESS WORKERS CONNECTIONS\n";
 
-/// Does what the words ask for, and answers the program's exit status and the disk. The journal is the disk that is handed in.
+/// Does what the words ask for, and answers the program's exit status and the disk. The journal is
+/// the disk that is handed in.
+///
+/// It has no doors: the words of `serve` get the usage line here, and are done by al_server.
 pub fn run<D: Disk, S: Source, O: Sink, K: Clock>(
     alloc: Global,
     words: &[Text],
@@ -33,22 +36,42 @@ pub fn run<D: Disk, S: Source, O: Sink, K: Clock>(
     clock: &mut K,
 ) -> (u8, D)
     ensures init { (capacity : ℕ) → IsInit words.now capacity
-        → HasMade capacity (record { old_disk = D.told disk; new_disk = D.told result.1;
-        old_faults = D.faults disk; new_faults = D.faults result.1; old_output = O.held sink.old;
-        new_output = O.held sink.new }) result.0 }
+        → HasMade capacity (record {
+          old_disk = D.told disk;
+          new_disk = D.told result.1;
+          old_faults = D.faults disk;
+          new_faults = D.faults result.1;
+          old_output = O.held sink.old;
+          new_output = O.held sink.new;
+        }) result.0 }
     ensures session { IsSession words.now
-        → (HasNotBegun (record { old_disk = D.told disk; new_disk = D.told result.1;
-        old_faults = D.faults disk; new_faults = D.faults result.1 }) result.0
+        → (HasNotBegun (record {
+          old_disk = D.told disk;
+          new_disk = D.told result.1;
+          old_faults = D.faults disk;
+          new_faults = D.faults result.1;
+        }) result.0
         × HasNotTalked source.old source.new sink.old sink.new clock.old clock.new)
-        ⊎ HasConversed (S.left source.old) (record { old_output = O.held sink.old;
-            new_output = O.held sink.new; old_clock = K.readings clock.old;
-            new_clock = K.readings clock.new }) (record { old_disk = D.told disk;
-            new_disk = D.told result.1; old_faults = D.faults disk;
-            new_faults = D.faults result.1 }) result.0 }
+        ⊎ HasConversed (S.left source.old) (record {
+          old_output = O.held sink.old;
+          new_output = O.held sink.new;
+          old_clock = K.readings clock.old;
+          new_clock = K.readings clock.new;
+        }) (record {
+          old_disk = D.told disk;
+          new_disk = D.told result.1;
+          old_faults = D.faults disk;
+          new_faults = D.faults result.1;
+        }) result.0 }
     ensures check { IsCheck words.now
-        → HasChecked (record { old_disk = D.told disk; new_disk = D.told result.1;
-        old_faults = D.faults disk; new_faults = D.faults result.1; old_output = O.held sink.old;
-        new_output = O.held sink.new }) result.0 }
+        → HasChecked (record {
+          old_disk = D.told disk;
+          new_disk = D.told result.1;
+          old_faults = D.faults disk;
+          new_faults = D.faults result.1;
+          old_output = O.held sink.old;
+          new_output = O.held sink.new;
+        }) result.0 }
     ensures drill { (seed count : ℕ) → IsDrill words.now seed count
         → Drills seed count (O.held sink.old) (O.held sink.new) result.0 × (result.1 ≡ disk) }
     ensures usage { IsNoRow words.now
@@ -81,22 +104,44 @@ fn run_command<D: Disk, S: Source, O: Sink, K: Clock>(
 ) -> (u8, D)
     requires { IsWithinRow command }
     ensures does { ByCommand command
-        (λ capacity. HasMade capacity (record { old_disk = D.told disk; new_disk = D.told result.1;
-            old_faults = D.faults disk; new_faults = D.faults result.1;
-            old_output = O.held sink.old; new_output = O.held sink.new }) result.0)
-        ((HasNotBegun (record { old_disk = D.told disk; new_disk = D.told result.1;
-            old_faults = D.faults disk; new_faults = D.faults result.1 }) result.0
-            × HasNotTalked source.old source.new sink.old sink.new clock.old clock.new)
-        ⊎ HasConversed (S.left source.old) (record { old_output = O.held sink.old;
-            new_output = O.held sink.new; old_clock = K.readings clock.old;
-            new_clock = K.readings clock.new }) (record { old_disk = D.told disk;
-            new_disk = D.told result.1; old_faults = D.faults disk;
-            new_faults = D.faults result.1 }) result.0)
-        (HasChecked (record { old_disk = D.told disk; new_disk = D.told result.1;
-            old_faults = D.faults disk; new_faults = D.faults result.1;
-            old_output = O.held sink.old; new_output = O.held sink.new }) result.0)
+        (λ capacity. HasMade capacity (record {
+          old_disk = D.told disk;
+          new_disk = D.told result.1;
+          old_faults = D.faults disk;
+          new_faults = D.faults result.1;
+          old_output = O.held sink.old;
+          new_output = O.held sink.new;
+        }) result.0)
+        ((HasNotBegun (record {
+          old_disk = D.told disk;
+          new_disk = D.told result.1;
+          old_faults = D.faults disk;
+          new_faults = D.faults result.1;
+        }) result.0
+        × HasNotTalked source.old source.new sink.old sink.new clock.old clock.new)
+        ⊎ HasConversed (S.left source.old) (record {
+          old_output = O.held sink.old;
+          new_output = O.held sink.new;
+          old_clock = K.readings clock.old;
+          new_clock = K.readings clock.new;
+        }) (record {
+          old_disk = D.told disk;
+          new_disk = D.told result.1;
+          old_faults = D.faults disk;
+          new_faults = D.faults result.1;
+        }) result.0)
+        (HasChecked (record {
+          old_disk = D.told disk;
+          new_disk = D.told result.1;
+          old_faults = D.faults disk;
+          new_faults = D.faults result.1;
+          old_output = O.held sink.old;
+          new_output = O.held sink.new;
+        }) result.0)
         (λ seed count. Drills seed count (O.held sink.old) (O.held sink.new) result.0
-            × (result.1 ≡ disk)) }
+        × (result.1 ≡ disk))
+        (λ serve. Tells usage_line status_bad_words (O.held sink.old) (O.held sink.new) result.0
+        × (result.1 ≡ disk)) }
     ensures untouched { command ≢ Command.Session → (source.new ≡ source.old)
         × (clock.new ≡ clock.old) }
     ensures read_fault { result.0 ≡ status_read_fault
@@ -112,6 +157,7 @@ fn run_command<D: Disk, S: Source, O: Sink, K: Clock>(
         Command::Session => run_session(alloc, disk, source, sink, clock),
         Command::Check => run_check(alloc, disk, sink),
         Command::Drill { seed, count } => (run_drill(alloc, seed, count, sink), disk),
+        Command::Serve(_) => (refuse_words(sink), disk),
     }
 }
 

@@ -26,14 +26,24 @@ pub fn run_session<D: Disk, S: Source, O: Sink, K: Clock>(
     sink: &mut O,
     clock: &mut K,
 ) -> (u8, D)
-    ensures session { (HasNotBegun (record { old_disk = D.told disk; new_disk = D.told result.1;
-        old_faults = D.faults disk; new_faults = D.faults result.1 }) result.0
+    ensures session { (HasNotBegun (record {
+      old_disk = D.told disk;
+      new_disk = D.told result.1;
+      old_faults = D.faults disk;
+      new_faults = D.faults result.1;
+    }) result.0
         × HasNotTalked source.old source.new sink.old sink.new clock.old clock.new)
-        ⊎ HasConversed (S.left source.old) (record { old_output = O.held sink.old;
-            new_output = O.held sink.new; old_clock = K.readings clock.old;
-            new_clock = K.readings clock.new }) (record { old_disk = D.told disk;
-            new_disk = D.told result.1; old_faults = D.faults disk;
-            new_faults = D.faults result.1 }) result.0 }
+        ⊎ HasConversed (S.left source.old) (record {
+          old_output = O.held sink.old;
+          new_output = O.held sink.new;
+          old_clock = K.readings clock.old;
+          new_clock = K.readings clock.new;
+        }) (record {
+          old_disk = D.told disk;
+          new_disk = D.told result.1;
+          old_faults = D.faults disk;
+          new_faults = D.faults result.1;
+        }) result.0 }
     ensures read_fault { result.0 ≡ status_read_fault
         → Rose (S.faults source.old) (S.faults source.new) }
     ensures write_fault { result.0 ≡ status_write_fault

@@ -1,6 +1,6 @@
 //! A conversation: the requests of a source are answered one after the other into a sink, by any service, one turn each.
 
-ghost use Rattle.std.specs.Prelude.{◌≡◌, ◌≤◌, ◌<◌, ◌+◌, false, true, length, IfOk, OnErr};
+ghost use Rattle.std.specs.Prelude.{◌≡◌, ◌≤◌, ◌<◌, ◌+◌, false, true, IfOk, OnErr};
 ghost use Rattle.al_base.specs.Outside.{Rose};
 ghost use Rattle.al_http.specs.Requests.{is_last};
 ghost use Rattle.al_http.specs.Responses.{HasText};
@@ -61,8 +61,12 @@ pub fn converse<T: Kept, U: Turns<T>, V: Service<T>, S: Source, O: Sink, K: Cloc
     requires left { HasTurns (U.left turns.old) request_limit }
     ensures conversation { IsConversation (V.answers service.old) (U.may_add turns.old) origin
         (U.seen turns.old) (U.seen turns.new) (S.left source.old)
-        (record { old_output = O.held sink.old; new_output = O.held sink.new;
-            old_clock = K.readings clock.old; new_clock = K.readings clock.new }) result }
+        (record {
+          old_output = O.held sink.old;
+          new_output = O.held sink.new;
+          old_clock = K.readings clock.old;
+          new_clock = K.readings clock.new;
+        }) result }
     ensures idle { U.taken turns.new ≡ false }
     ensures left { U.left turns.new ≡ turns_less (U.left turns.old) result.requests }
     ensures few { result.requests ≤ request_limit }
@@ -125,9 +129,13 @@ fn take_turn<T: Kept, U: Turns<T>, V: Service<T>, O: Sink, K: Clock>(
     requires left { HasTurn (U.left turns.old) }
     ensures turn { TakesTurn (V.answers service.old) (U.may_add turns.old) origin (U.seen turns.old)
         (U.seen turns.new) (message_of request.now)
-        (record { old_output = O.held sink.old; new_output = O.held sink.new;
-            old_clock = K.readings clock.old; new_clock = K.readings clock.new }) number result.0
-            result.1 }
+        (record {
+          old_output = O.held sink.old;
+          new_output = O.held sink.new;
+          old_clock = K.readings clock.old;
+          new_clock = K.readings clock.new;
+        }) number result.0
+        result.1 }
     ensures few { result.0 ≤ 1 }
     ensures last { IfOk result.1 (λ last. last ≡ is_last (message_of request.now)) }
     ensures idle { U.taken turns.new ≡ false }

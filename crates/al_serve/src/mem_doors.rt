@@ -30,8 +30,12 @@ impl<I, O> Model for MemDoors<I, O> {
 
     ghost Value = { MemDoorsView I O };
 
-    ghost view = { λ d. record { coming = d.coming.items; finished = d.finished.items; out = d.out;
-        plan = d.plan } };
+    ghost view = { λ d. record {
+      coming = d.coming.items;
+      finished = d.finished.items;
+      out = d.out;
+      plan = d.plan;
+    } };
 
     ghost invariant = { λ d. length d.coming.items + d.out + vec_len d.finished
         ≤ vec_capacity d.finished };
@@ -45,8 +49,12 @@ impl<I: Source, O: Sink> MemDoors<I, O> {
         fails: &[u64],
     ) -> Result<MemDoors<I, O>, AllocError>
         ensures { IfOk result (λ doors.
-            doors ≡ record { coming = connections.items; finished = []; out = 0;
-            plan = record { fails = fails.now; calls = 0; faults = 0 } }) }
+            doors ≡ record {
+              coming = connections.items;
+              finished = [];
+              out = 0;
+              plan = record { fails = fails.now; calls = 0; faults = 0 };
+            }) }
     {
         let finished = Vec::with_capacity(alloc, connections.len())?;
         let plan = Plan::new(alloc, fails)?;

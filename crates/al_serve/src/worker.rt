@@ -1,6 +1,6 @@
 //! A worker: one thread's part of the serving, with a pass at the turnstile and a door of its own.
 
-ghost use Rattle.std.specs.Prelude.{◌≡◌, ◌≤◌, ◌<◌, ◌*◌, All, false, true};
+ghost use Rattle.std.specs.Prelude.{◌≡◌, ◌<◌, ◌*◌, All, false, true};
 ghost use Rattle.al_serve.specs.declared.worker.Worker.{Worker};
 ghost use Rattle.al_http.specs.Streams.{request_limit};
 ghost use Rattle.al_serve.specs.Left.{HasTurns, IsCounted};
@@ -115,7 +115,7 @@ fn serve<T: Kept, U: Turns<T>, N: Doors, V: Service<T>, K: Clock>(
     ensures serves { Serves (V.answers service.old) (U.may_add turns.old) origin (U.seen turns.old)
         (U.seen turns.new)
         (N.state door.old) (N.state door.new) (K.readings clock.old) (K.readings clock.new) number
-            result.served result.added result.faulted }
+        result.served result.added result.faulted }
     ensures idle { U.taken turns.new ≡ false }
     ensures counted { 0 < result.added → IsCounted (U.seen turns.new) }
     ensures identity { U.identity turns.new ≡ U.identity turns.old }

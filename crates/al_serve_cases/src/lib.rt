@@ -4,8 +4,6 @@
 #![tactic(auto)]
 
 #[cfg(test)]
-mod gated;
+mod adder;
 #[cfg(test)]
 mod serving;
-#[cfg(test)]
-mod tally;

@@ -1,10 +1,8 @@
-mod Colons
 mod Ends
 mod Fresh
 mod Fronts
 mod Hiring
 mod Keeping
-mod OneServe
 mod Sending
 mod Shifts
 mod Stations

@@ -1,4 +1,2 @@
-pub mod Addresses
 pub mod Crews
-pub mod ServeWords
 pub mod Serving

@@ -1,20 +1,20 @@
 //! `serve`: workers answer the connections of their doors over the history of a journal.
 
-ghost use Rattle.std.specs.Prelude.{◌≡◌, ◌≢◌, ◌+◌, ◌++◌, ◌-◌, ◌<◌, ◌≤◌, ◌⊎◌, ◌^◌, [], IfErr, IfOk, OnErr, OnOk, length, map, vec_len};
+ghost use Rattle.std.specs.Prelude.{◌≡◌, ◌≢◌, ◌+◌, ◌-◌, ◌<◌, ◌≤◌, ◌⊎◌, IfErr, IfOk, OnErr, OnOk, length, map, vec_len};
 ghost use Rattle.std.specs.Io.KnownBytes.{Appends};
 ghost use Rattle.al_base.specs.Outside.{Rose};
 ghost use Rattle.al_http.specs.Fronts.{AppendsFront};
 ghost use Rattle.al_office.specs.Journaled.{journaled_mark};
 ghost use Rattle.al_server.specs.Crews.{IsRoom};
 ghost use Rattle.al_commands.specs.Lines.{Tells, usage_line};
-ghost use Rattle.al_server.specs.ServeWords.{IsNoServe, IsServe};
 ghost use Rattle.al_server.specs.Serving.{EndsShift, HasNotServed, HasServed, OneRose, served_line, status_by};
 ghost use Rattle.al_commands.specs.Statuses.{status_bad_words, status_door_fault, status_write_fault};
-ghost use Rattle.al_server.specs.declared.serve_words.ServeWords.{ServeWords};
+ghost use Rattle.al_commands.specs.Words.{IsNoServe, IsServe};
+ghost use Rattle.al_commands.specs.declared.serve_words.ServeWords.{ServeWords};
 
 use crate::crew::{Room, Served, all_passes, dismiss, hire};
-use crate::serve_words::ServeWords;
 use al_base::{Clock, Sink, Text, WriteFault};
+use al_commands::ServeWords;
 use al_commands::checking::tell_fault;
 use al_commands::line::{Count, write_count};
 use al_commands::program::refuse_words;
@@ -66,13 +66,24 @@ where
         → Tells usage_line status_bad_words (O.held sink.old) (O.held sink.new) result.0
         × (result.1 ≡ disk) × (result.2 ≡ doors) }
     ensures serve { (serve : ServeWords) → IsServe words.now serve →
-        (HasNotServed (record { old_disk = D.told disk; new_disk = D.told result.1;
-            old_faults = D.faults disk; new_faults = D.faults result.1 }) (O.held sink.old)
-            (O.held sink.new) result.0 × (result.2 ≡ doors))
-        ⊎ HasServed serve.connections (record { old_doors = map N.state doors.items;
-            new_doors = map N.state result.2.items; clocks = map K.readings clocks.items })
-        (record { old_disk = D.told disk; new_disk = D.told result.1; old_faults = D.faults disk;
-            new_faults = D.faults result.1 }) (O.held sink.old) (O.held sink.new) result.0 }
+        (HasNotServed (record {
+          old_disk = D.told disk;
+          new_disk = D.told result.1;
+          old_faults = D.faults disk;
+          new_faults = D.faults result.1;
+        }) (O.held sink.old)
+        (O.held sink.new) result.0 × (result.2 ≡ doors))
+        ⊎ HasServed serve.connections (record {
+          old_doors = map N.state doors.items;
+          new_doors = map N.state result.2.items;
+          clocks = map K.readings clocks.items;
+        })
+        (record {
+          old_disk = D.told disk;
+          new_disk = D.told result.1;
+          old_faults = D.faults disk;
+          new_faults = D.faults result.1;
+        }) (O.held sink.old) (O.held sink.new) result.0 }
     ensures write_fault { result.0 ≡ status_write_fault
         → Rose (O.faults sink.old) (O.faults sink.new) }
     ensures door_fault { result.0 ≡ status_door_fault
@@ -122,11 +133,14 @@ where
     requires room { IsRoom (vec_len doors) room }
     requires connections { connections ≤ 1000000 }
     ensures ok { IfOk result (λ shift.
-        EndsShift connections (record { old_doors = map N.state doors.items;
-        new_doors = map N.state shift.doors.items; clocks = map K.readings clocks.items })
+        EndsShift connections (record {
+          old_doors = map N.state doors.items;
+          new_doors = map N.state shift.doors.items;
+          clocks = map K.readings clocks.items;
+        })
         (journaled_mark (D.faults office.journal.disk) office)
-            (journaled_mark (D.faults shift.office.journal.disk) shift.office)
-            shift.served.connections shift.served.faulted) }
+        (journaled_mark (D.faults shift.office.journal.disk) shift.office)
+        shift.served.connections shift.served.faulted) }
     ensures err { IfErr result (λ back. (back.0 ≡ office) × (back.1 ≡ doors)) }
 {
     let Room {

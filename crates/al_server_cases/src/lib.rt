@@ -4,8 +4,6 @@
 #![tactic(auto)]
 
 #[cfg(test)]
-mod gated;
-#[cfg(test)]
 mod made;
 #[cfg(test)]
 mod rows;

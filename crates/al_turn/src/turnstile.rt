@@ -53,8 +53,10 @@ impl<T: Kept> Model for Turnstile<T> {
 
     ghost coded = { Prim.hlevel (codes, a_view.the_row.coded) };
 
-    ghost view = { λ t. record { table = t.table.shared.table_id;
-        start = T.mark t.table.shared.key.value } };
+    ghost view = { λ t. record {
+      table = t.table.shared.table_id;
+      start = T.mark t.table.shared.key.value;
+    } };
 
     ghost invariant = { λ t. (t.table.shared.table_id.words ≡ 3)
         × (t.table.shared.table_id.slots ≡ 1) };
@@ -139,8 +141,10 @@ impl<T: Kept> Turnstile<T> {
         requires turn { 0 < seat.old.me.0.left }
         ensures table { seat.new.table_id ≡ seat.old.table_id }
         ensures seat { (ticket : ℕ)
-            × (seat.new.me ≡ (fetched (drew seat.old.me.0 ticket) (T.mark result.0),
-            (0, None) ∷ [])) }
+            × (seat.new.me ≡ (
+              fetched (drew seat.old.me.0 ticket) (T.mark result.0),
+              (0, None) ∷ [],
+            )) }
         ensures length { result.1 ≡ length (T.mark result.0).entries }
         ensures found { Found seat.old.me.0 (T.mark result.0) }
     {

@@ -4,6 +4,4 @@
 #![tactic(auto)]
 
 #[cfg(test)]
-mod tally;
-#[cfg(test)]
 mod threads;

@@ -135,8 +135,12 @@ impl<R: Clock + Drop> Doors for TcpDoor<R> {
 
     ghost use Rattle.std.specs.Prelude.{None};
 
-    ghost state = { λ d. record { coming = None; finished = None; out = d.out;
-        faults = d.faults } };
+    ghost state = { λ d. record {
+      coming = None;
+      finished = None;
+      out = d.out;
+      faults = d.faults;
+    } };
 
     fn next_connection(&mut self) -> Result<Option<(TcpSource, TcpSink)>, DoorFault> {
         let Some(out) = self.out.checked_add(1) else {

@@ -22,6 +22,7 @@ pub struct Piece {
 }
 
 impl Piece {
+    /// A text that may be given then.
     pub fn new(writes: u64, text: String) -> Piece {
         Piece {
             writes,
@@ -29,6 +30,7 @@ impl Piece {
         }
     }
 
+    /// A copy of bytes that may be given then.
     pub fn of(alloc: Global, writes: u64, bytes: &[u8]) -> Result<Piece, AllocError> {
         Ok(Piece {
             writes,
@@ -44,10 +46,11 @@ pub struct GatedSource {
     next: usize,
     taken: usize,
     others: Count,
-    faults: u64,
+    pub faults: u64,
 }
 
 impl GatedSource {
+    /// A source of these pieces, which waits for the writes that are counted there.
     pub fn new(pieces: Vec<Piece>, others: &Count) -> Result<GatedSource, AllocError> {
         Ok(GatedSource {
             pieces,
@@ -105,9 +108,10 @@ pub struct CountedSink {
 }
 
 impl CountedSink {
-    pub fn new(alloc: Global, writes: &Count) -> Result<CountedSink, AllocError> {
+    /// A sink of so much room, whose writes are counted there.
+    pub fn new(alloc: Global, room: usize, writes: &Count) -> Result<CountedSink, AllocError> {
         Ok(CountedSink {
-            sink: MemSink::new(alloc, 100_000, &[])?,
+            sink: MemSink::new(alloc, room, &[])?,
             writes: Arc::try_clone(writes)?,
         })
     }
