@@ -159,7 +159,10 @@ impl<D: Disk> Journal<D> {
         }
         let bytes = piece.piece();
         self.block.forget();
+        // The gate is opened only when the record, and with it the closed gate behind, is on the disk
+        // for sure: a crash in between leaves the gate closed, and so the payloads as they were.
         write_durably(&mut self.disk, self.gate + 1, bytes)?;
+        // From here on a fault leaves the gate open or closed, and the disk alone could tell.
         self.doubt = true;
         write_durably(&mut self.disk, self.gate, &[1])?;
         self.doubt = false;
