@@ -1,4 +1,4 @@
--- What is found is what stands at its place.
+-- What is found is what stands at its index.
 use Rattle.std.proofs.Common.{◌≡◌, ℕ, zero, suc, ◌-◌, ◌<◌, ◌≤◌, Bool, true, false, cond, List, [], ◌∷◌, length, get_or, option_map, None, Some, refl, ap, ◌∙◌, ltb-false, sub-one, arith}
 use Rattle.std.specs.Prelude.{nat_lt}
 use Rattle.std.specs.List.{find, position, position_or_len, slice_get}

@@ -6,6 +6,7 @@ pub mod Notes
 pub mod Outputs
 pub mod Pieces
 pub mod Shelves
+pub mod Showings
 pub mod Summaries
 pub mod Trees
 pub mod Wholes

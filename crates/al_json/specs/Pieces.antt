@@ -12,7 +12,7 @@ use Rattle.al_json.specs.Inventories.{alarm_inventory_tree, identity_tree, inven
 use Rattle.al_json.specs.Notes.{action_tree, log_tree, note_tree, notification_tree}
 use Rattle.al_json.specs.Shelves.{shelf_tree, shelving_tree, type_match_tree}
 use Rattle.al_json.specs.Summaries.{summary_tree, summary_trees}
-use Rattle.al_json.specs.Wholes.{alarms_tree}
+use Rattle.al_json.specs.Wholes.{alarms_with}
 use Rattle.al_json.specs.declared.inner.Inner.{Inner}
 use Rattle.al_json.specs.declared.inner.Inner.TheVariants as inners
 use Rattle.al_json.specs.declared.outer.Outer.{Outer}
@@ -69,5 +69,5 @@ section_data (sections.OneAlarm found) =
 
 -- what stands under the name of a resource, the whole list among them
 abbrev pub content_data : Content → Option Data
-content_data (contents.Alarms tables) = Some (alarms_tree tables.now.state)
+content_data (contents.Alarms tables summary) = Some (alarms_with tables.now.state (summary_tree summary.rows summary.shelves_active))
 content_data (contents.Section section) = section_data section

@@ -7,7 +7,7 @@ use Rattle.al_fields.specs.Members.{list_of, object_of}
 use Rattle.serde_json.specs.Data.{Data, array, item, no_items, null, number, string, unsigned}
 
 abbrev pub count_at : ℕ → List ℕ → Option Data
-count_at place counts = Some (number (unsigned (slice_index counts place)))
+count_at index counts = Some (number (unsigned (slice_index counts index)))
 
 -- the counts of a severity, which `counts_of` of the model lists: all alarms, those not cleared and cleared, the cleared ones not closed and
 -- closed, the others closed and not closed
@@ -27,7 +27,7 @@ unfoldable pub counts_tree : Severity → List ℕ → Data
 counts_tree severity counts = object_of (counts_fields severity counts)
 
 abbrev pub row_at : ℕ → List (List ℕ) → List ℕ
-row_at place rows = slice_index_or rows place []
+row_at index rows = slice_index_or rows index []
 
 -- the counts of each severity, from critical down
 unfoldable pub summary_trees : List (List ℕ) → List Data

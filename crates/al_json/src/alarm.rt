@@ -80,7 +80,7 @@ fn created<'a>(side: Side, time: Stamp) -> Leaf<'a>
 pub(crate) struct Listed<'a>(pub(crate) &'a Tables);
 
 impl<'a> Listed<'a> {
-    /// The alarm at this place.
+    /// The alarm at this index.
     #[tactic(auto, using(crate::proofs::Marks::at_marked))]
     fn found(&self, i: usize) -> Option<&'a Alarm>
         ensures alarm { option_map (λ v. v.state) (option_copied result)
@@ -130,7 +130,7 @@ impl<'a> Series for Listed<'a> {
 pub(crate) struct Shelved<'a>(pub(crate) &'a Tables);
 
 impl<'a> Shelved<'a> {
-    /// The alarm at this place.
+    /// The alarm at this index.
     #[tactic(auto, using(crate::proofs::Marks::at_marked))]
     fn found(&self, i: usize) -> Option<&'a Alarm>
         ensures alarm { option_map (λ v. v.state) (option_copied result)

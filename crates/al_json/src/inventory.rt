@@ -180,7 +180,7 @@ impl<'a> Series for Severities<'a> {
     }
 }
 
-/// The name of the row's severity at this place, from the least to the gravest.
+/// The name of the row's severity at this index, from the least to the gravest.
 fn name_at(row: &Row, i: usize) -> Option<&str>
     ensures { option_copied result
         ≡ option_map severity_name (slice_get (severities_in row.now.severities) i) }
@@ -207,28 +207,28 @@ fn severities_of(set: u8) -> usize
         .count()
 }
 
-/// The severity at this place among those of the set.
-fn severity_at(set: u8, place: usize) -> Option<Severity>
-    ensures { result ≡ slice_get (severities_in set) place }
+/// The severity at this index among those of the set.
+fn severity_at(set: u8, index: usize) -> Option<Severity>
+    ensures { result ≡ slice_get (severities_in set) index }
 {
     let all = Severity::ALL;
-    nth_in(set, all.as_slice(), place)
+    nth_in(set, all.as_slice(), index)
 }
 
-/// The severity at this place among these that are in the set.
+/// The severity at this index among these that are in the set.
 #[tactic(auto, using(crate::proofs::Finding::behind_first, crate::proofs::Finding::at_first))]
-fn nth_in(set: u8, severities: &[Severity], place: usize) -> Option<Severity>
-    ensures { result ≡ slice_get (filter (has_severity set) severities.now) place }
+fn nth_in(set: u8, severities: &[Severity], index: usize) -> Option<Severity>
+    ensures { result ≡ slice_get (filter (has_severity set) severities.now) index }
 {
     let Some((first, rest)) = severities.split_first() else {
         return None;
     };
     if !has(set, *first) {
-        return nth_in(set, rest, place);
+        return nth_in(set, rest, index);
     }
-    if place == 0 {
+    if index == 0 {
         Some(*first)
     } else {
-        nth_in(set, rest, place - 1)
+        nth_in(set, rest, index - 1)
     }
 }

@@ -19,4 +19,4 @@ mod summary;
 pub mod trees;
 
 pub use output::append_output;
-pub use trees::{append_text, text_len, tree};
+pub use trees::Showing;

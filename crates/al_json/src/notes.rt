@@ -4,8 +4,8 @@ ghost use Rattle.al_notify.specs.Logs.{page_of};
 ghost use Rattle.std.specs.Prelude.{◌≡◌, length};
 
 use crate::note::note_object;
-use al_fields::{Series, Shown};
 use al_base::limits::MOST_PAGE_NOTES;
+use al_fields::{Series, Shown};
 use al_notify::NoteLog;
 use serde_json::Value;
 use std::alloc::{AllocError, Global};

@@ -8,7 +8,7 @@ ghost use Rattle.std.specs.Prelude.{◌≡◌, ◌+◌, ◌++◌, ◌≤◌, cod
 use al_fields::{Field, Object, object, put_whole};
 use al_uri::Target;
 
-/// Writes what the action of the target answers with this count, and nothing where it answers none. It takes no memory.
+/// Writes what the action of the target answers with this count, and nothing where it answers none. It can't fail, whatever memory there is.
 pub fn append_output(target: &Target, count: u32, out: &mut Vec<u8>)
     requires { vec_len out.old + 64 ≤ vec_capacity out.old }
     ensures items { out.new.items

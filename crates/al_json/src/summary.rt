@@ -53,19 +53,19 @@ fn counts_object(severity: Severity, counts: &[u32; 7]) -> Object<[Field<Leaf<'_
     }
 }
 
-fn count_in(counts: &[u32; 7], place: usize) -> Leaf<'_>
-    requires { place < 7 }
-    ensures { leaf_data result ≡ count_at place counts.now }
+fn count_in(counts: &[u32; 7], index: usize) -> Leaf<'_>
+    requires { index < 7 }
+    ensures { leaf_data result ≡ count_at index counts.now }
 {
-    Leaf::Number(u64::from(counts[place]))
+    Leaf::Number(u64::from(counts[index]))
 }
 
-/// The severity at this place, from critical down.
-fn falling_at(place: usize) -> Option<Severity>
-    ensures severity { result ≡ slice_get falling_severities place }
-    ensures within { IfSome result (λ _. place < 5) }
+/// The severity at this index, from critical down.
+fn falling_at(index: usize) -> Option<Severity>
+    ensures severity { result ≡ slice_get falling_severities index }
+    ensures within { IfSome result (λ _. index < 5) }
 {
-    match place {
+    match index {
         0 => Some(Severity::Critical),
         1 => Some(Severity::Major),
         2 => Some(Severity::Minor),
@@ -76,11 +76,11 @@ fn falling_at(place: usize) -> Option<Severity>
 }
 
 #[tactic(auto, using(crate::proofs::Finding::row_is))]
-fn counts_at(summary: &Summary, place: usize) -> &[u32; 7]
-    requires { place < 5 }
-    ensures { result.now ≡ row_at place summary.now.rows }
+fn counts_at(summary: &Summary, index: usize) -> &[u32; 7]
+    requires { index < 5 }
+    ensures { result.now ≡ row_at index summary.now.rows }
 {
-    &summary.rows[place]
+    &summary.rows[index]
 }
 
 /// The counts of all severities, from critical down.

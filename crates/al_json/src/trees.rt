@@ -7,11 +7,10 @@ ghost use Rattle.al_json.specs.Alarms.{alarm_tree};
 ghost use Rattle.al_json.specs.Inventories.{alarm_inventory_tree, inventory_tree};
 ghost use Rattle.al_json.specs.Pieces.{content_data, section_data};
 ghost use Rattle.al_json.specs.Shelves.{shelf_tree};
-ghost use Rattle.al_json.specs.Summaries.{summary_tree};
+ghost use Rattle.al_json.specs.Showings.{tree_shown};
 ghost use Rattle.al_json.specs.Trees.{part_data, resource_data, resource_name, tree_of};
 ghost use Rattle.al_model.specs.Alarms.{alarm_of};
 ghost use Rattle.al_model.specs.State.{inventory_of, listed, shelved};
-ghost use Rattle.al_model.specs.Summary.{has_shelved, summary_of};
 ghost use Rattle.al_shelf.specs.Places.{shelf_of};
 ghost use Rattle.serde_json.specs.View.{view};
 ghost use Rattle.serde_json.specs.Written.{compact_text};
@@ -32,35 +31,48 @@ use al_uri::Target;
 use serde_json::Value;
 use std::alloc::{AllocError, Global};
 
-/// The tree of the resource that the target names, None exactly where it isn't there or has no tree.
-#[tactic(auto, unfolding(crate::specs::Trees::tree_of))]
-pub fn tree(alloc: Global, target: &Target, tables: &Tables) -> Result<Option<Value>, AllocError>
-    ensures { IfOk result (λ value. option_map view value ≡ tree_of target.now tables.now.state) }
-{
-    let content = Held(content_of(target, tables));
-    whole_value(alloc, name_of(target), &content)
+/// What is shown of a resource, made once for its tree, its text and the text's length.
+#[derive(Clone, Copy)]
+pub struct Showing<'a> {
+    name: &'static str,
+    content: Held<Content<'a>>,
 }
 
-/// How long the compact text of that tree is, or the greatest number where it is longer. It takes no memory.
-#[tactic(auto, unfolding(crate::specs::Trees::tree_of))]
-pub fn text_len(target: &Target, tables: &Tables) -> Option<u64>
-    ensures { result ≡ option_map (λ tree.
-        saturated (length (compact_text tree))) (tree_of target.now tables.now.state) }
-{
-    let content = Held(content_of(target, tables));
-    whole_len(name_of(target), &content)
-}
+impl<'a> Showing<'a> {
+    /// What is shown of the resource that the target names.
+    #[tactic(auto, unfolding(crate::specs::Trees::tree_of))]
+    pub fn of(target: &Target, tables: &'a Tables) -> Showing<'a>
+        ensures { tree_shown result ≡ tree_of target.now tables.now.state }
+    {
+        Showing {
+            name: name_of(target),
+            content: Held(content_of(target, tables)),
+        }
+    }
 
-/// Writes that text behind what is there, and nothing where there is no tree. It takes no memory.
-#[tactic(auto, unfolding(crate::specs::Trees::tree_of))]
-pub fn append_text(target: &Target, tables: &Tables, out: &mut Vec<u8>)
-    requires { vec_len out.old + length (text_of (tree_of target.now tables.now.state))
-        ≤ vec_capacity out.old }
-    ensures items { out.new.items ≡ out.old.items ++ text_of (tree_of target.now tables.now.state) }
-    ensures room { vec_capacity out.old ≤ vec_capacity out.new }
-{
-    let content = Held(content_of(target, tables));
-    put_whole(out, name_of(target), &content);
+    /// Its tree, None exactly where the resource isn't there or has no tree.
+    pub fn tree(&self, alloc: Global) -> Result<Option<Value>, AllocError>
+        ensures { IfOk result (λ value. option_map view value ≡ tree_shown self.now) }
+    {
+        whole_value(alloc, self.name, &self.content)
+    }
+
+    /// How long the compact text of that tree is, or the greatest number where it is longer. It can't fail, whatever memory there is.
+    pub fn text_len(&self) -> Option<u64>
+        ensures { result ≡ option_map (λ tree.
+            saturated (length (compact_text tree))) (tree_shown self.now) }
+    {
+        whole_len(self.name, &self.content)
+    }
+
+    /// Writes that text behind what is there, and nothing where there is no tree. It can't fail, whatever memory there is.
+    pub fn append_text(&self, out: &mut Vec<u8>)
+        requires { vec_len out.old + length (text_of (tree_shown self.now)) ≤ vec_capacity out.old }
+        ensures items { out.new.items ≡ out.old.items ++ text_of (tree_shown self.now) }
+        ensures room { vec_capacity out.old ≤ vec_capacity out.new }
+    {
+        put_whole(out, self.name, &self.content);
+    }
 }
 
 /// The name of the resource that the target names, with its module, and no bytes where it has no tree.
@@ -96,7 +108,7 @@ fn content_of<'a>(target: &Target, tables: &'a Tables) -> Content<'a>
     ensures { content_data result ≡ resource_data target.now tables.now.state }
 {
     match target {
-        Target::Alarms => Content::Alarms(tables),
+        Target::Alarms => Content::Alarms(tables, tables.summary()),
         _ => Content::Section(section_of(target, tables)),
     }
 }
@@ -113,7 +125,7 @@ fn section_of<'a>(target: &Target, tables: &'a Tables) -> Section<'a>
         Target::Shelving { spot: _ } => Section::Shelving(tables.shelves()),
         Target::OneShelf { name, spot: _ } => one_shelf(tables, name),
         Target::AlarmInventory => rows(tables),
-        Target::Summary => summary(tables),
+        Target::Summary => Section::Summary(tables.summary()),
         Target::AlarmList => Section::AlarmList(tables),
         Target::AlarmCount => Section::Leaf(Leaf::Number(tables.alarms() as u64)),
         Target::AlarmsChanged => Section::Leaf(Leaf::of_time(tables.list_changed())),
@@ -149,14 +161,6 @@ pub(crate) fn rows(tables: &Tables) -> Section<'_>
     }
 }
 
-/// How many alarms there are, by severity and by what became of them.
-pub(crate) fn summary(tables: &Tables) -> Section<'_>
-    ensures { section_data result
-        ≡ Some (summary_tree (summary_of tables.now.state) (has_shelved tables.now.state)) }
-{
-    Section::Summary(tables.summary())
-}
-
 fn one_shelf<'a>(tables: &'a Tables, name: &Text) -> Section<'a>
     ensures { section_data result
         ≡ list_of (map shelf_tree (option_to_list (shelf_of name.now tables.now.state.shelves))) }
@@ -169,16 +173,16 @@ fn find_shelf<'a>(shelves: &'a Shelves, name: &Text) -> Option<&'a Shelf>
     ensures { option_copied result ≡ shelf_of name.now shelves.now.shelves }
 {
     match shelves.place_of(name) {
-        Some(place) => shelf_at(shelves, place),
+        Some(index) => shelf_at(shelves, index),
         None => None,
     }
 }
 
 #[tactic(auto, using(crate::proofs::Finding::past))]
-fn shelf_at(shelves: &Shelves, place: usize) -> Option<&Shelf>
-    ensures { option_copied result ≡ slice_get shelves.now.shelves place }
+fn shelf_at(shelves: &Shelves, index: usize) -> Option<&Shelf>
+    ensures { option_copied result ≡ slice_get shelves.now.shelves index }
 {
-    match shelves.at(place) {
+    match shelves.at(index) {
         Some(shelf) => Some(shelf),
         None => None,
     }
@@ -189,7 +193,7 @@ fn shelf_at(shelves: &Shelves, place: usize) -> Option<&Shelf>
 fn one_listed<'a>(tables: &'a Tables, key: &AlarmKey) -> Section<'a>
     ensures { section_data result
         ≡ list_of (map (alarm_tree tables.now.state Side.List)
-            (option_to_list (alarm_of key.now (listed tables.now.state)))) }
+        (option_to_list (alarm_of key.now (listed tables.now.state)))) }
 {
     tables.state_is_valid();
     Section::OneAlarm(Items(FoundAlarm {
@@ -204,7 +208,7 @@ fn one_listed<'a>(tables: &'a Tables, key: &AlarmKey) -> Section<'a>
 fn one_shelved<'a>(tables: &'a Tables, key: &AlarmKey) -> Section<'a>
     ensures { section_data result
         ≡ list_of (map (alarm_tree tables.now.state Side.Shelf)
-            (option_to_list (alarm_of key.now (shelved tables.now.state)))) }
+        (option_to_list (alarm_of key.now (shelved tables.now.state)))) }
 {
     tables.state_is_valid();
     Section::OneAlarm(Items(FoundAlarm {

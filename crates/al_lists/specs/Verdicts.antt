@@ -1,5 +1,5 @@
 -- What is to become of a request, all but the event that carries it out.
-use Rattle.std.specs.Prelude.{ℕ, ◌==◌, Bool, true, false, not, ⊤, Option, None, Some, is_some}
+use Rattle.std.specs.Prelude.{ℕ, ◌==◌, Bool, true, false, not, Option, None, Some, is_some}
 use Rattle.std.specs.Option.{option_or}
 use Rattle.al_base.specs.Limits.{last_stamp}
 use Rattle.al_base.specs.declared.severity.Status.{Status}

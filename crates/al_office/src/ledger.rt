@@ -44,7 +44,7 @@ impl Ledger {
         })
     }
 
-    /// Decides on the request: the entry that carries it out and its reply, or what is answered at once. It takes no memory.
+    /// Decides on the request: the entry that carries it out and its reply, or what is answered at once. It can't fail, whatever memory there is.
     pub fn decide(
         &self,
         origin: u16,
@@ -70,7 +70,7 @@ impl Ledger {
         }
     }
 
-    /// Whether the entry may come next. It takes no memory.
+    /// Whether the entry may come next. It can't fail, whatever memory there is.
     pub fn fits(&self, entry: &Entry) -> bool
         requires { IsEntryWithin entry.now }
         ensures { IsTrue result ↔ Fits (replay self.now.entries) entry.now }

@@ -23,7 +23,7 @@ use Rattle.al_restconf.specs.Pages.{front_within, page_of, page_tree}
 use Rattle.al_restconf.specs.Reads.{read_of, shown}
 use Rattle.al_restconf.specs.declared.fault.Fault.TheVariants.{TooBig}
 
--- what stands at a place is the first of what stands from there on
+-- what stands at an index is the first of what stands from there on
 pub dropped_some : {X : Type 0} (xs : List X) (n : ℕ) (x : X) → Some x ≡ slice_get xs n → drop n xs ≡ x ∷ drop (n + 1) xs
 dropped_some [] zero x some = absurd (cc)
 dropped_some [] (suc n) x some = absurd (cc)
@@ -67,7 +67,7 @@ within_at (f ∷ h) (suc n) e within some = within_at h n e within.1 some
 pub entry_is_within : (h : List Entry) (n : ℕ) (e : Entry) → IsLegal h → Some e ≡ slice_get h n → IsEntryWithin e
 entry_is_within h n e legal some = within_at h n e (all_within start h legal) some
 
--- the frame at a place is that of the entry there
+-- the frame at an index is that of the entry there
 pub frame_is : (h : List Entry) (n : ℕ) (e : Entry) → Some e ≡ slice_get h n → Some (frame_of e) ≡ slice_get (frames_of h) n
 frame_is h n e some = sym (slice_get-map frame_of h n ∙ ap (option_map frame_of) (sym some))
 

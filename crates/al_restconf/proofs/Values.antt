@@ -11,7 +11,7 @@ use Rattle.al_base.specs.Limits.{IsOperatorName, is_operator_name}
 use Rattle.al_restconf.specs.Fields.{operator_in}
 use Rattle.al_restconf.specs.declared.fault.Fault.TheVariants.{MissingOperator, BadOperator}
 
--- some value from a place on passes where the one there does, or one behind it
+-- some value from an index on passes where the one there does, or one behind it
 pub any_from : {X : Type 0} (p : X → Bool) (xs : List X) (n : ℕ) → list_any p (drop n xs) ≡ (option_map_or p (slice_get xs n) false || list_any p (drop (n + 1) xs))
 any_from p [] zero = refl
 any_from p [] (suc n) = rw add-one refl

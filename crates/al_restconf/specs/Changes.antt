@@ -20,6 +20,7 @@ use Rattle.al_model.specs.declared.kept.Mark.{Mark}
 use Rattle.al_model.specs.declared.request.Request.{Request}
 use Rattle.al_model.specs.declared.request.Request.TheVariants as requests
 use Rattle.al_office.specs.Images.{used_by}
+use Rattle.al_office.specs.Journaled.{JournaledView, journaled_mark}
 use Rattle.al_base.specs.Answers.{and_then}
 use Rattle.al_uri.specs.declared.target.Target.{Target}
 use Rattle.al_uri.specs.declared.target.Target.TheVariants as targets
@@ -27,6 +28,10 @@ use Rattle.al_restconf.specs.Faults.{IsDue, refused}
 use Rattle.al_restconf.specs.Reads.{shown}
 use Rattle.al_restconf.specs.declared.fault.Fault.{Fault}
 use Rattle.al_restconf.specs.declared.fault.Fault.TheVariants.{Refused}
+
+-- what is seen of an office, over the count of its disk's faults
+abbrev pub mark_of : {D : Type 0} → (D → ℕ) → JournaledView D → Mark
+mark_of faults office = journaled_mark (faults office.journal.disk) office
 
 -- What a request comes to that isn't refused: a response alone, or an entry that is added first.
 pub data Verdict : Type 0 where

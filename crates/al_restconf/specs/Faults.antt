@@ -44,7 +44,7 @@ abbrev pub refused : Refusal → Fault
 refused refusals.Memory = Memory
 refused refusal = Refused refusal
 
--- the fault that is said; want of memory may stand in the place of every answer
+-- the fault that is said; want of memory may stand for every answer
 abbrev pub IsDue : {A : Type 0} → Result A Fault → Fault → Type 0
 IsDue said Memory = ⊤
 IsDue said fault = said ≡ Err fault

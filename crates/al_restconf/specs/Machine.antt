@@ -1,6 +1,6 @@
 -- The machine of the resources: over a history in a journal of a capacity, a request of an origin at a reading of the clock has this answer, and
 -- adds these entries.
-use Rattle.std.specs.Prelude.{◌≡◌, ◌⊎◌, ◌++◌, ℕ, Bool, Result, Ok, Err, List, [], codes, length}
+use Rattle.std.specs.Prelude.{◌≡◌, ◌⊎◌, ◌++◌, ℕ, Bool, Result, Ok, Err, List, [], length}
 use Rattle.al_base.specs.Outside.{Rose}
 use Rattle.al_http.specs.Requests.{RequestMessage}
 use Rattle.al_http.specs.declared.response.Response.{Response}
@@ -8,13 +8,12 @@ use Rattle.al_model.specs.declared.decision.Refusal.TheVariants.{Disk}
 use Rattle.al_model.specs.declared.entry.Entry.{Entry}
 use Rattle.al_model.specs.declared.kept.Mark.{Mark}
 use Rattle.al_base.specs.Answers.{and_then}
-use Rattle.al_uri.specs.Resources.{is_same}
 use Rattle.al_uri.specs.declared.target.Target.{Target}
 use Rattle.al_restconf.specs.Bodies.{request_asks}
 use Rattle.al_restconf.specs.Changes.{Answer, IsAdding, Verdict, Tell, changed, in_journal}
 use Rattle.al_restconf.specs.Faults.{told}
 use Rattle.al_restconf.specs.Fields.{accepted, typed}
-use Rattle.al_restconf.specs.Methods.{method_at}
+use Rattle.al_restconf.specs.Methods.{is_bare, method_of, methods_at, one_of}
 use Rattle.al_restconf.specs.Reads.{read_of}
 use Rattle.al_restconf.specs.Targets.{target_in}
 use Rattle.al_restconf.specs.declared.fault.Fault.{Fault}
@@ -38,7 +37,7 @@ done_by before origin reading target method request =
 unfoldable pub admitted : RequestMessage → Result (Target × Method) Fault
 admitted request =
     and_then (target_in request) (λ target.
-    and_then (method_at target request.method) (λ method.
+    and_then (one_of (methods_at target) (method_of request.method)) (λ method.
     and_then (accepted target request) (λ _.
     and_then (typed method request) (λ _.
     Ok (target, method)))))
@@ -48,9 +47,9 @@ unfoldable pub verdict_of : List Entry → ℕ → ℕ → RequestMessage → Re
 verdict_of before origin reading request =
     and_then (admitted request) (λ named. done_by before origin reading named.0 named.1 request)
 
--- a response to HEAD leaves its body out, a refusal's too (RFC 9110, section 9.3.2)
+-- whether the answer leaves its body out
 abbrev pub is_head : RequestMessage → Bool
-is_head request = is_same request.method (codes "HEAD")
+is_head request = is_bare (method_of request.method)
 
 abbrev pub barely : Bool → Response → Response
 barely bare response = record response { bare = bare }

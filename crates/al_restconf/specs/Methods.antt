@@ -1,5 +1,5 @@
 -- The methods of requests, and which a resource has (RFC 8040, section 4).
-use Rattle.std.specs.Prelude.{ℕ, ◌==◌, Bool, if◌then◌else◌, Option, None, Some, Result, Ok, Err, List, codes}
+use Rattle.std.specs.Prelude.{ℕ, ◌==◌, Bool, true, false, if◌then◌else◌, Option, None, Some, Result, Ok, Err, List, codes}
 use Rattle.std.specs.Int.{bit_at}
 use Rattle.al_uri.specs.Resources.{is_same}
 use Rattle.al_uri.specs.declared.target.Target.{Target}
@@ -18,6 +18,11 @@ method_of name =
     else if is_same name (codes "POST") then Some Post
     else if is_same name (codes "PUT") then Some Put
     else None
+
+-- an answer to HEAD leaves its body out, a refusal too (RFC 9110, section 9.3.2)
+abbrev pub is_bare : Option Method → Bool
+is_bare (Some Head) = true
+is_bare other = false
 
 -- Sets of methods: the bit of each, in the order in which `Allow` tells them.
 abbrev pub bit_of : Method → ℕ
@@ -62,10 +67,7 @@ methods_at other = get_alone
 abbrev pub has_method : ℕ → Method → Bool
 has_method methods method = bit_at methods (bit_of method) == 1
 
+-- the method that was named, where it is one of these
 abbrev pub one_of : ℕ → Option Method → Result Method Fault
 one_of methods None = Err (NoSuchMethod methods)
 one_of methods (Some method) = if has_method methods method then Ok method else Err (NoSuchMethod methods)
-
--- the method of that name, where the resource has it
-unfoldable pub method_at : Target → List ℕ → Result Method Fault
-method_at target name = one_of (methods_at target) (method_of name)

@@ -1,8 +1,7 @@
 ghost use Rattle.al_http.specs.Responses.{HasText};
 ghost use Rattle.al_http.specs.Services.{Adds};
 ghost use Rattle.al_model.specs.Limits.{IsRequestWithin};
-ghost use Rattle.al_office.specs.Journaled.{journaled_mark};
-ghost use Rattle.al_restconf.specs.Changes.{Carries, changed};
+ghost use Rattle.al_restconf.specs.Changes.{Carries, changed, mark_of};
 ghost use Rattle.std.specs.Prelude.{◌≡◌, ◌≤◌, IfOk, Some, length};
 
 use crate::fault::Fault;
@@ -25,8 +24,7 @@ pub fn change<D: Disk>(
     now: Stamp,
 ) -> Result<Response, Fault>
     requires { IsRequestWithin asked }
-    ensures carried { Carries (journaled_mark (D.faults office.old.journal.disk) office.old)
-        (journaled_mark (D.faults office.new.journal.disk) office.new) origin
+    ensures carried { Carries (mark_of D.faults office.old) (mark_of D.faults office.new) origin
         (changed office.old.entries origin now target.now asked) result }
     ensures place { IfOk result (λ response. response.place ≡ Some (length office.old.entries)) }
     ensures text { IfOk result HasText }

@@ -1,6 +1,6 @@
 ghost use Rattle.al_http.specs.Responses.{HasText};
 ghost use Rattle.al_restconf.specs.Faults.{row_of, told};
-ghost use Rattle.std.specs.Prelude.{◌≡◌, Some};
+ghost use Rattle.std.specs.Prelude.{◌≡◌, IfOk, Some};
 
 use al_http::Response;
 use al_input::{BodyFault, InputFault};
@@ -143,22 +143,23 @@ impl Fault {
         }
     }
 
-    /// How the fault is told, want of memory too.
-    pub fn told(self, place: u64) -> Response
-        ensures value { result ≡ told place self }
-        ensures place { result.place ≡ Some place }
-        ensures text { HasText result }
+    /// How the fault is told. Want of memory is none that is told here.
+    pub fn told(self, place: u64) -> Result<Response, AllocError>
+        ensures value { IfOk result (λ response. (response ≡ told place self)
+            × ¬ (self ≡ Fault.Memory)) }
+        ensures place { IfOk result (λ response. response.place ≡ Some place) }
+        ensures text { IfOk result HasText }
     {
         match self {
             Fault::NoSuchMethod(allow) => {
-                let mut response = Response::of_row(self.row(), Some(place));
+                let mut response = Response::of_row(9, Some(place));
                 response.allow = allow;
-                response
+                Ok(response)
             }
-            Fault::NotAcceptable => Response::bodiless(406, Some(place)),
-            Fault::UnsupportedType => Response::bodiless(415, Some(place)),
-            Fault::Refused(Refusal::Memory) | Fault::Memory => Response::out_of_memory(place),
-            fault => Response::of_row(fault.row(), Some(place)),
+            Fault::NotAcceptable => Ok(Response::bodiless(406, Some(place))),
+            Fault::UnsupportedType => Ok(Response::bodiless(415, Some(place))),
+            Fault::Refused(Refusal::Memory) | Fault::Memory => Err(AllocError),
+            fault => Ok(Response::of_row(fault.row(), Some(place))),
         }
     }
 }

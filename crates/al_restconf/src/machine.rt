@@ -1,10 +1,10 @@
 ghost use Rattle.al_http.specs.Responses.{HasText};
 ghost use Rattle.al_http.specs.Services.{Adds};
 ghost use Rattle.al_http.specs.Shown.{message_of};
-ghost use Rattle.al_office.specs.Journaled.{journaled_mark};
-ghost use Rattle.al_restconf.specs.Changes.{Carries};
-ghost use Rattle.al_restconf.specs.Faults.{Answers, told};
-ghost use Rattle.al_restconf.specs.Machine.{IsAnswer, admitted, done_by, is_head, verdict_of};
+ghost use Rattle.al_restconf.specs.Changes.{Carries, mark_of};
+ghost use Rattle.al_restconf.specs.Faults.{Answers};
+ghost use Rattle.al_restconf.specs.Machine.{IsAnswer, admitted, done_by, verdict_of};
+ghost use Rattle.al_restconf.specs.Methods.{method_of};
 ghost use Rattle.al_uri.specs.Limits.{IsTargetWithin};
 ghost use Rattle.std.specs.Prelude.{◌≡◌, ◌≤◌, IfOk, OnErr, Some, length};
 
@@ -12,7 +12,7 @@ use crate::body::request_asks;
 use crate::change::change;
 use crate::fault::Fault;
 use crate::fields::{check_accept, check_type};
-use crate::method::Method;
+use crate::method::{Method, is_bare};
 use crate::read::read;
 use crate::target::read_target;
 use al_base::Stamp;
@@ -22,12 +22,6 @@ use al_model::Kept;
 use al_office::journaled::Office;
 use al_uri::Target;
 use std::alloc::{AllocError, Global};
-
-fn is_head(request: &HttpRequest) -> bool
-    ensures { result ≡ is_head (message_of request.now) }
-{
-    request.method() == b"HEAD".as_slice()
-}
 
 /// What the request is answered by a method that its resource has.
 #[tactic(auto, unfolding(crate::specs::Machine::done_by))]
@@ -41,8 +35,7 @@ fn done_by<D: Disk>(
     now: Stamp,
 ) -> Result<Response, Fault>
     requires { IsTargetWithin target.now }
-    ensures carried { Carries (journaled_mark (D.faults office.old.journal.disk) office.old)
-        (journaled_mark (D.faults office.new.journal.disk) office.new) origin
+    ensures carried { Carries (mark_of D.faults office.old) (mark_of D.faults office.new) origin
         (done_by office.old.entries origin now target.now method (message_of request.now)) result }
     ensures place { IfOk result (λ response. response.place ≡ Some (length office.old.entries)) }
     ensures text { IfOk result HasText }
@@ -60,12 +53,17 @@ fn done_by<D: Disk>(
 
 /// What the request's head names, its resource and a method that this has; or the first refusal that is due before the body is read.
 #[tactic(auto, unfolding(crate::specs::Machine::admitted))]
-fn admitted(alloc: Global, request: &HttpRequest) -> Result<(Target, Method), Fault>
+fn admitted(
+    alloc: Global,
+    named: Option<Method>,
+    request: &HttpRequest,
+) -> Result<(Target, Method), Fault>
+    requires { named ≡ method_of (message_of request.now).method }
     ensures exact { Answers (admitted (message_of request.now)) result }
     ensures within { IfOk result (λ named. IsTargetWithin named.0) }
 {
     let target = read_target(alloc, request)?;
-    let method = Method::at(&target, request.method())?;
+    let method = Method::at(&target, named)?;
     check_accept(&target, request)?;
     check_type(method, request)?;
     Ok((target, method))
@@ -77,32 +75,20 @@ fn answered<D: Disk>(
     alloc: Global,
     office: &mut Office<D>,
     origin: u16,
+    named: Option<Method>,
     request: &HttpRequest,
     now: Stamp,
 ) -> Result<Response, Fault>
-    ensures carried { Carries (journaled_mark (D.faults office.old.journal.disk) office.old)
-        (journaled_mark (D.faults office.new.journal.disk) office.new) origin
+    requires { named ≡ method_of (message_of request.now).method }
+    ensures carried { Carries (mark_of D.faults office.old) (mark_of D.faults office.new) origin
         (verdict_of office.old.entries origin now (message_of request.now)) result }
     ensures place { IfOk result (λ response. response.place ≡ Some (length office.old.entries)) }
     ensures text { IfOk result HasText }
     ensures fixed { office.new.fixed ≡ office.old.fixed }
     ensures later { D.faults office.old.journal.disk ≤ D.faults office.new.journal.disk }
 {
-    let (target, method) = admitted(alloc, request)?;
+    let (target, method) = admitted(alloc, named, request)?;
     done_by(alloc, office, origin, &target, method, request, now)
-}
-
-/// How a fault is told; want of memory is told by the caller.
-fn tell(fault: Fault, place: u64) -> Result<Response, AllocError>
-    ensures value { IfOk result (λ response. (response ≡ told place fault)
-        × ¬ (fault ≡ Fault.Memory)) }
-    ensures place { IfOk result (λ response. response.place ≡ Some place) }
-    ensures text { IfOk result HasText }
-{
-    match fault {
-        Fault::Memory => Err(AllocError),
-        fault => Ok(fault.told(place)),
-    }
 }
 
 /// Answers the request over the office's history, at a reading of the clock.
@@ -118,20 +104,19 @@ pub fn answer<D: Disk>(
     now: Stamp,
 ) -> Result<Response, AllocError>
     ensures answered { IfOk result (λ response.
-        IsAnswer (journaled_mark (D.faults office.old.journal.disk) office.old) origin
-        (message_of request.now) now response
-        (journaled_mark (D.faults office.new.journal.disk) office.new)) }
-    ensures adds { Adds origin (journaled_mark (D.faults office.old.journal.disk) office.old)
-        (journaled_mark (D.faults office.new.journal.disk) office.new) }
+        IsAnswer (mark_of D.faults office.old) origin (message_of request.now) now response
+        (mark_of D.faults office.new)) }
+    ensures adds { Adds origin (mark_of D.faults office.old) (mark_of D.faults office.new) }
     ensures place { IfOk result (λ response. response.place ≡ Some (length office.old.entries)) }
     ensures text { IfOk result HasText }
     ensures unanswered { OnErr result (office.new.entries ≡ office.old.entries) }
 {
     let place = office.entries();
-    let mut response = match answered(alloc, office, origin, request, now) {
+    let named = Method::of(request.method());
+    let mut response = match answered(alloc, office, origin, named, request, now) {
         Ok(response) => response,
-        Err(fault) => tell(fault, place)?,
+        Err(fault) => fault.told(place)?,
     };
-    response.bare = is_head(request);
+    response.bare = is_bare(named);
     Ok(response)
 }

@@ -1,5 +1,5 @@
 ghost use Rattle.al_restconf.specs.Faults.{Answers};
-ghost use Rattle.al_restconf.specs.Methods.{bit_of, has_method, method_at, method_of, methods_at};
+ghost use Rattle.al_restconf.specs.Methods.{bit_of, has_method, is_bare, method_of, methods_at, one_of};
 ghost use Rattle.std.specs.Prelude.{◌≡◌, ◌<◌};
 
 use crate::fault::Fault;
@@ -28,7 +28,7 @@ const POST: u8 = 0b01000;
 impl Method {
     /// The method of that name.
     #[tactic(auto, unfolding(crate::specs::Methods::method_of))]
-    fn of(name: &[u8]) -> Option<Method>
+    pub fn of(name: &[u8]) -> Option<Method>
         ensures { result ≡ method_of name.now }
     {
         if name == b"DELETE".as_slice() {
@@ -66,16 +66,25 @@ impl Method {
         (methods >> self.bit()) % 2 == 1
     }
 
-    /// The method of that name, where the resource has it.
-    #[tactic(auto, unfolding(crate::specs::Methods::method_at))]
-    pub fn at(target: &Target, name: &[u8]) -> Result<Method, Fault>
-        ensures { Answers (method_at target.now name.now) result }
+    /// The method that was named, where the resource has it.
+    pub fn at(target: &Target, named: Option<Method>) -> Result<Method, Fault>
+        ensures { Answers (one_of (methods_at target.now) named) result }
     {
         let methods = methods(target);
-        match Method::of(name) {
+        match named {
             Some(method) if method.is_in(methods) => Ok(method),
             _ => Err(Fault::NoSuchMethod(methods)),
         }
+    }
+}
+
+/// Whether answers to the method that was named leave their body out.
+pub fn is_bare(named: Option<Method>) -> bool
+    ensures { result ≡ is_bare named }
+{
+    match named {
+        Some(Method::Head) => true,
+        _ => false,
     }
 }
 

@@ -9,7 +9,7 @@ use al_base::List;
 use al_disk::Disk;
 use al_fields::{Held, put_whole, whole_len};
 use al_http::{Content, Response};
-use al_json::{append_text, text_len};
+use al_json::Showing;
 use al_model::{Kept, Refusal};
 use al_office::journaled::Office;
 use al_uri::Target;
@@ -100,14 +100,14 @@ fn read_state<D: Disk>(
     ensures text { IfOk result HasText }
 {
     let place = office.entries();
-    let tables = office.look();
-    let Some(len) = text_len(target, tables) else {
+    let showing = Showing::of(target, office.look());
+    let Some(len) = showing.text_len() else {
         return Err(absence(target));
     };
     if len > MAX_BODY {
         return Err(Fault::TooBig);
     }
     let mut text = Vec::with_capacity(alloc, len as usize)?;
-    append_text(target, tables, &mut text);
+    showing.append_text(&mut text);
     Ok(shown(place, Content::Tree(List::of(text))))
 }

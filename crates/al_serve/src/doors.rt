@@ -43,7 +43,7 @@ pub trait Doors: Drop {
         ensures later { (state self.old).faults ≤ (state self.new).faults }
         ensures cause { OnErr result (Rose (state self.old).faults (state self.new).faults) };
 
-    /// Takes a connection back that was served. It can't fail, and takes no memory.
+    /// Takes a connection back that was served. It can't fail.
     fn finish(&mut self, input: Self::In, output: Self::Out)
         requires { 0 < (state self.old).out }
         ensures takes { TakesBack (state self.old)

@@ -84,7 +84,7 @@ impl<T: Kept> Turnstile<T> {
         }
     }
 
-    /// Pass 1 makes the pass with the next number, which has seen what pass 1 has. It takes no memory.
+    /// Pass 1 makes the pass with the next number, which has seen what pass 1 has. It can't fail, whatever memory there is.
     pub fn split(&self, pass: Pass<T>) -> (Pass<T>, Pass<T>)
         requires table { pass.table ≡ self.now.table }
         requires first { pass.view.number ≡ 1 }
