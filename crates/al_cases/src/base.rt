@@ -1,7 +1,7 @@
 //! Texts, names, stamps, lists and copies.
 
 use al_base::{
-    Copied, EventType, List, OperatorState, Severity, Stamp, Status, Text, TextFault, FormFault,
+    Copied, EventType, FormFault, List, OperatorState, Severity, Stamp, Status, Text, TextFault,
     TypeId,
 };
 use std::alloc::{AllocError, Global};

@@ -281,9 +281,10 @@ impl Contents {
     fn report(&mut self, place: usize, time: Stamp, status: Status, text: Text, entry_text: Text)
         requires room { HasAlarm self.old.alarms place (λ v. 0 < v.status_room) }
         requires same_text { entry_text ≡ text }
-        ensures { self.new.state ≡ record self.old.state
-            { alarms = at_place place (reported self.old.state.max time status text)
-            self.old.state.alarms } }
+        ensures { self.new.state ≡ record self.old.state {
+          alarms = at_place place (reported self.old.state.max time status text)
+              self.old.state.alarms;
+        } }
     {
         report_at(&mut self.alarms, place, time, status, text, entry_text);
     }
@@ -309,8 +310,10 @@ impl Contents {
     }
 
     fn set_max(&mut self, max: Option<u16>)
-        ensures { self.new.state ≡ record self.old.state { max = max;
-            alarms = map (bounded max) self.old.state.alarms } }
+        ensures { self.new.state ≡ record self.old.state {
+          max = max;
+          alarms = map (bounded max) self.old.state.alarms;
+        } }
     {
         self.max = max;
         set_max(&mut self.alarms, max);
@@ -324,8 +327,10 @@ impl Contents {
 
     fn set_shelves(&mut self, shelves: Shelves, moves: Vec<Option<OperatorEntry>>)
         requires { HaveRoom moves.items self.old.alarms }
-        ensures { self.new.state ≡ record self.old.state { shelves = shelves.shelves;
-            alarms = after_moves moves.items self.old.state.alarms } }
+        ensures { self.new.state ≡ record self.old.state {
+          shelves = shelves.shelves;
+          alarms = after_moves moves.items self.old.state.alarms;
+        } }
     {
         self.shelves = shelves;
         apply_moves(&mut self.alarms, moves);
@@ -334,8 +339,10 @@ impl Contents {
 
     fn set_inventory(&mut self, inventory: Inventory, moves: Vec<Option<OperatorEntry>>)
         requires { HaveRoom moves.items self.old.alarms }
-        ensures { self.new.state ≡ record self.old.state { inventory = Some inventory;
-            alarms = after_moves moves.items self.old.state.alarms } }
+        ensures { self.new.state ≡ record self.old.state {
+          inventory = Some inventory;
+          alarms = after_moves moves.items self.old.state.alarms;
+        } }
     {
         self.inventory = Some(inventory);
         apply_moves(&mut self.alarms, moves);

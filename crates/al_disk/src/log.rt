@@ -40,10 +40,13 @@ impl Model for Log {
 
     ghost Value = { LogView };
 
-    ghost view = { λ l. record
-        { state = replay (state_of l.first.items) l.asked.items l.bytes.items;
-        written = length l.bytes.items; noted = length l.asked.items; bytes_room = l.bytes_room;
-        calls = l.calls } };
+    ghost view = { λ l. record {
+      state = replay (state_of l.first.items) l.asked.items l.bytes.items;
+      written = length l.bytes.items;
+      noted = length l.asked.items;
+      bytes_room = l.bytes_room;
+      calls = l.calls;
+    } };
 
     ghost invariant = { λ l. ReadsAsAnImage
         (replay (state_of l.first.items) l.asked.items l.bytes.items)
@@ -61,8 +64,13 @@ impl Log {
         calls: usize,
     ) -> Result<Log, AllocError>
         ensures { IfOk result (λ log.
-            log ≡ record { state = state_of bytes.now; written = 0; noted = 0;
-            bytes_room = bytes_room; calls = calls }) }
+            log ≡ record {
+              state = state_of bytes.now;
+              written = 0;
+              noted = 0;
+              bytes_room = bytes_room;
+              calls = calls;
+            }) }
     {
         Ok(Log {
             first: Vec::from_slice(alloc, bytes)?,
@@ -93,9 +101,11 @@ impl Log {
         requires piece { bytes_of asked ≡ length piece.now }
         requires bytes { self.old.written + length piece.now ≤ self.old.bytes_room }
         requires calls { self.old.noted < self.old.calls }
-        ensures after { self.new ≡ record self.old
-            { state = after_asked self.old.state piece.now asked;
-            written = self.old.written + length piece.now; noted = self.old.noted + 1 } }
+        ensures after { self.new ≡ record self.old {
+          state = after_asked self.old.state piece.now asked;
+          written = self.old.written + length piece.now;
+          noted = self.old.noted + 1;
+        } }
         ensures as_it_reads { ReadsAsAnImage self.new.state }
     {
         self.asked.push_reserved(asked);

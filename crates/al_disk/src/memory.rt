@@ -31,8 +31,13 @@ impl Model for MemDisk {
 
     ghost Value = { MemDiskView };
 
-    ghost view = { λ d. record { state = d.log.state; written = d.log.written; room = d.room;
-        calls = d.log.calls; plan = d.plan } };
+    ghost view = { λ d. record {
+      state = d.log.state;
+      written = d.log.written;
+      room = d.room;
+      calls = d.log.calls;
+      plan = d.plan;
+    } };
 
     ghost invariant = { λ d. ReadsAsAnImage d.log.state
         × (d.content.items ≡ d.log.state.content)
@@ -55,8 +60,13 @@ impl MemDisk {
     ) -> Result<MemDisk, AllocError>
         requires { length bytes.now ≤ room }
         ensures { IfOk result (λ disk.
-            disk ≡ record { state = state_of bytes.now; written = 0; room = room; calls = calls;
-            plan = record { fails = fails.now; calls = 0; faults = 0 } }) }
+            disk ≡ record {
+              state = state_of bytes.now;
+              written = 0;
+              room = room;
+              calls = calls;
+              plan = record { fails = fails.now; calls = 0; faults = 0 };
+            }) }
     {
         let Some(bytes_room) = room.checked_mul(2) else {
             return Err(AllocError);

@@ -112,7 +112,7 @@ fn add_field<P: Shown>(
 ) -> Result<(), AllocError>
     ensures { OnOk result (members_view members.new.entries
         ≡ with_member field.now.name.now (P.said field.now.piece)
-            (members_view members.old.entries)) }
+        (members_view members.old.entries)) }
 {
     match field.piece.value(alloc)? {
         Some(value) => serde_json::put(members, alloc, field.name, value),

@@ -62,7 +62,12 @@ impl Reader for ActionFields {
             &["state", "ietf-alarms:state", "text", "ietf-alarms:text"],
         )?;
         let state = required::<OperatorsState>(alloc, value, "state", "ietf-alarms:state")?;
-        let text = optional::<TextOf<0, LONGEST_OPERATOR_TEXT>>(alloc, value, "text", "ietf-alarms:text")?;
+        let text = optional::<TextOf<0, LONGEST_OPERATOR_TEXT>>(
+            alloc,
+            value,
+            "text",
+            "ietf-alarms:text",
+        )?;
         Ok((state, text))
     }
 }

@@ -151,7 +151,12 @@ fn row_qualifier(alloc: Global, value: &Value) -> Result<Text, InputFault>
 fn row_resources(alloc: Global, value: &Value) -> Result<List<Text>, InputFault>
     ensures { Answers (row_resources (view value.now)) result }
 {
-    list_or_none::<TextOf<1, LONGEST_RESOURCE>, MOST_ROW_RESOURCES>(alloc, value, "resource", "alarmd:resource")
+    list_or_none::<TextOf<1, LONGEST_RESOURCE>, MOST_ROW_RESOURCES>(
+        alloc,
+        value,
+        "resource",
+        "alarmd:resource",
+    )
 }
 
 #[tactic(auto, unfolding(crate::specs::Inputs::row_severities))]

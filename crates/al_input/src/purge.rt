@@ -190,7 +190,12 @@ impl Reader for NewestFields {
             &["state", "ietf-alarms:state", "user", "ietf-alarms:user"],
         )?;
         let state = optional::<WordOf<OperatorState>>(alloc, value, "state", "ietf-alarms:state")?;
-        let user = optional::<TextOf<0, LONGEST_OPERATOR_NAME>>(alloc, value, "user", "ietf-alarms:user")?;
+        let user = optional::<TextOf<0, LONGEST_OPERATOR_NAME>>(
+            alloc,
+            value,
+            "user",
+            "ietf-alarms:user",
+        )?;
         Ok((state, user))
     }
 }

@@ -195,10 +195,5 @@ impl Reader for ReportFields {
 pub fn report_input(alloc: Global, value: &Value) -> Result<Asked, InputFault>
     ensures { Answers (report_input (view value.now)) result }
 {
-    Ok(Asked::Whole(body::<ReportFields>(
-        alloc,
-        value,
-        "input",
-        "alarmd:input",
-    )?))
+    Ok(Asked::Whole(body::<ReportFields>(alloc, value, "input", "alarmd:input")?))
 }

@@ -121,14 +121,24 @@ fn shelf_resources(alloc: Global, value: &Value) -> Result<List<ResourceMatch>, 
 fn shelf_types(alloc: Global, value: &Value) -> Result<List<TypeMatch>, InputFault>
     ensures { Answers (shelf_types (view value.now)) result }
 {
-    set_or_none::<CriterionFields, MOST_SHELF_TYPES>(alloc, value, "alarm-type", "ietf-alarms:alarm-type")
+    set_or_none::<CriterionFields, MOST_SHELF_TYPES>(
+        alloc,
+        value,
+        "alarm-type",
+        "ietf-alarms:alarm-type",
+    )
 }
 
 #[tactic(auto, unfolding(crate::specs::Inputs::shelf_description))]
 fn shelf_description(alloc: Global, value: &Value) -> Result<Option<Text>, InputFault>
     ensures { Answers (shelf_description (view value.now)) result }
 {
-    optional::<TextOf<0, LONGEST_DESCRIPTION>>(alloc, value, "description", "ietf-alarms:description")
+    optional::<TextOf<0, LONGEST_DESCRIPTION>>(
+        alloc,
+        value,
+        "description",
+        "ietf-alarms:description",
+    )
 }
 
 /// The shelf of an object; its name is to be this one, where one is wanted.

@@ -27,8 +27,11 @@ impl Model for Block {
 
     ghost Value = { BlockView };
 
-    ghost view = { λ b. record { start = b.start; held = take b.count b.bytes.items;
-        filled = b.filled } };
+    ghost view = { λ b. record {
+      start = b.start;
+      held = take b.count b.bytes.items;
+      filled = b.filled;
+    } };
 
     ghost invariant = { λ b. (length b.bytes.items ≡ 4096) × (b.count ≤ 4096) };
 }

@@ -39,8 +39,14 @@ impl<D: Disk> Model for Journal<D> {
 
     ghost Value = { JournalView D };
 
-    ghost view = { λ j. record { disk = j.disk; capacity = j.capacity; gate = j.gate; next = j.next;
-        count = j.count; doubt = j.doubt } };
+    ghost view = { λ j. record {
+      disk = j.disk;
+      capacity = j.capacity;
+      gate = j.gate;
+      next = j.next;
+      count = j.count;
+      doubt = j.doubt;
+    } };
 
     ghost invariant = { λ j. Told (D.told j.disk) (λ s. Holds j.block s.content)
         × IsCapacity j.capacity × (j.gate < j.capacity) × (j.next < j.capacity)
@@ -96,8 +102,11 @@ impl<D: Disk> Journal<D> {
             → self.old.next ≡ gate_of (take count payloads)
             → IsNext payloads count self.old.next result buf.new.items self.new.next) }
         ensures more { result ≡ Ok true
-            → self.new ≡ record self.old { disk = self.new.disk;
-            next = self.old.next + 5 + length buf.new.items; count = self.old.count + 1 } }
+            → self.new ≡ record self.old {
+              disk = self.new.disk;
+              next = self.old.next + 5 + length buf.new.items;
+              count = self.old.count + 1;
+            } }
         ensures end { result ≡ Ok false
             → self.new ≡ record self.old { disk = self.new.disk; gate = self.old.next } }
         ensures refused { OnErr result (self.new ≡ record self.old { disk = self.new.disk }) }

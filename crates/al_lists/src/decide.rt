@@ -13,9 +13,9 @@ ghost use Rattle.al_contents.specs.Views.{goes, loses};
 ghost use Rattle.al_lists.specs.Verdicts.{judged, room_for, row_refusal, verdict_at};
 
 use crate::verdict::{Verdict, judge, room};
-use al_contents::{Alarm, Contents, if_at};
 use al_base::limits::{MOST_ALARMS, MOST_SHELVES};
 use al_base::{Severity, Stamp, Status, Text};
+use al_contents::{Alarm, Contents, if_at};
 use al_ids::AlarmKey;
 use al_model::{Decision, Event, Refusal, Reply, Request, Side};
 use al_notify::{Mode, NotifyRule};
@@ -159,7 +159,7 @@ pub(crate) fn judge_operate(contents: &Contents, key: &AlarmKey) -> Verdict
     requires { IsValid contents.now.state }
     ensures { (time : ℕ) (state : OperatorState) (operator : List ℕ) (text : Option (List ℕ))
         → result ≡ verdict_at contents.now.state time
-            (Request.Operate key.now state operator text) }
+        (Request.Operate key.now state operator text) }
 {
     match if_at(contents.find(key), Side::List) {
         Some(_) => judge(None, true, room(contents, true, true), Reply::Done),

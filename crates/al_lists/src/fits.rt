@@ -11,8 +11,8 @@ use crate::decide::{
     judge_compression, judge_drop, judge_installation, judge_level, judge_max, judge_mode,
     judge_operate, judge_place, judge_purge, judge_report,
 };
-use al_contents::Contents;
 use al_base::{Severity, Text};
+use al_contents::Contents;
 use al_model::{Entry, Event, Reply};
 use al_notify::{Mode, NotifyRule};
 use al_shelf::{Shelf, Shelves};

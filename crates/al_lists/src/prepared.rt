@@ -1,5 +1,5 @@
-use al_contents::Change;
 use al_base::Stamp;
+use al_contents::Change;
 use al_notify::NoteBody;
 
 /// The change of an entry, for which all memory is taken.

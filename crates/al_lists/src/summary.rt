@@ -4,8 +4,8 @@ ghost use Rattle.al_model.specs.Summary.{summary_of};
 ghost use Rattle.al_model.specs.Validity.{IsValid};
 ghost use Rattle.al_lists.specs.Summaries.{AreAtMost, counted, is_selected, row_of, tallied, tally_of};
 
-use al_contents::{Alarm, Contents};
 use al_base::Severity;
+use al_contents::{Alarm, Contents};
 
 /// How many alarms the list has, by severity and by what became of them, and whether any alarm is on a shelf (RFC 8632, container
 /// `summary`).

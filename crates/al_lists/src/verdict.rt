@@ -1,8 +1,8 @@
 ghost use Rattle.std.specs.Prelude.{◌≡◌};
 ghost use Rattle.al_lists.specs.Verdicts.{is_change, judged, room_for};
 
-use al_contents::Contents;
 use al_base::Stamp;
+use al_contents::Contents;
 use al_model::{Refusal, Reply};
 
 /// What is to become of a request, all but the event that carries it out. It can't fail, whatever memory there is.

@@ -38,11 +38,17 @@ impl<D: Disk> Model for Office<D> {
 
     ghost Value = { JournaledView D };
 
-    ghost view = { λ o. record { entries = o.ledger.entries; journal = o.journal;
-        fixed = o.opened } };
+    ghost view = { λ o. record {
+      entries = o.ledger.entries;
+      journal = o.journal;
+      fixed = o.opened;
+    } };
 
-    ghost invariant = { λ o. IsKeptOn (D.told o.journal.disk) (record { entries = o.ledger.entries;
-        journal = o.journal; fixed = o.opened }) };
+    ghost invariant = { λ o. IsKeptOn (D.told o.journal.disk) (record {
+      entries = o.ledger.entries;
+      journal = o.journal;
+      fixed = o.opened;
+    }) };
 }
 
 impl<D: Disk> Office<D> {

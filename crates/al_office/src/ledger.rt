@@ -27,8 +27,11 @@ impl Model for Ledger {
 
     ghost Value = { LedgerView };
 
-    ghost view = { λ l. record { entries = l.entries.items; tables = l.tables;
-        room = vec_capacity l.entries - vec_len l.entries } };
+    ghost view = { λ l. record {
+      entries = l.entries.items;
+      tables = l.tables;
+      room = vec_capacity l.entries - vec_len l.entries;
+    } };
 
     ghost invariant = { λ l. IsKept l.entries.items l.tables.state };
 }

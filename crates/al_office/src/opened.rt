@@ -23,14 +23,20 @@ impl<D: Disk> Model for Opened<D> {
 
     ghost Value = { Fixed };
 
-    ghost view = { λ o. record { capacity = o.journal.value.capacity;
-        length = length o.ledger.value.entries; since = time_told (D.told o.journal.value.disk) } };
+    ghost view = { λ o. record {
+      capacity = o.journal.value.capacity;
+      length = length o.ledger.value.entries;
+      since = time_told (D.told o.journal.value.disk);
+    } };
 }
 
 impl<D: Disk> Opened<D> {
     pub fn of(journal: &Journal<D>, ledger: &Ledger) -> Opened<D>
-        ensures { result ≡ record { capacity = journal.now.capacity;
-            length = length ledger.now.entries; since = time_told (D.told journal.now.disk) } }
+        ensures { result ≡ record {
+          capacity = journal.now.capacity;
+          length = length ledger.now.entries;
+          since = time_told (D.told journal.now.disk);
+        } }
     {
         Opened {
             journal: Snapshot::of(journal),

@@ -19,12 +19,12 @@ pub fn write<D: Disk>(journal: &mut Journal<D>, piece: &Option<Record>) -> Resul
     ensures holds { (history : List Entry) (entry : Entry)
         → HoldsHistory (D.told journal.old.disk) journal.old history → Fits (replay history) entry
         → IsRecord journal.old entry piece.now
-            → HoldsAfter (D.told journal.new.disk) journal.new history entry result }
+        → HoldsAfter (D.told journal.new.disk) journal.new history entry result }
     ensures writes { (history : List Entry) (entry : Entry)
         → HoldsHistory (D.told journal.old.disk) journal.old history → Fits (replay history) entry
         → IsRecord journal.old entry piece.now
-            → Goes (Writes journal.old history entry) (D.told journal.old.disk)
-            (D.told journal.new.disk) }
+        → Goes (Writes journal.old history entry) (D.told journal.old.disk)
+        (D.told journal.new.disk) }
     ensures room { (entry : Entry) → IsRecord journal.old entry piece.now
         → SaysRoom journal.old entry result }
     ensures sure { (result ≡ Err CommitFault.Disk → ⊥) → journal.new.doubt ≡ false }

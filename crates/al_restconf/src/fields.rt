@@ -7,9 +7,9 @@ ghost use Rattle.al_restconf.specs.Fields.{accept, accepted, accepts, answered_t
 ghost use Rattle.std.specs.Option.{option_map_or};
 ghost use Rattle.std.specs.Prelude.{◌≡◌, codes, false, slice_get};
 
-use al_base::cut::cut;
 use crate::fault::Fault;
 use crate::method::Method;
+use al_base::cut::cut;
 use al_http::{HttpRequest, trimmed};
 use al_uri::Target;
 

@@ -7,8 +7,8 @@ ghost use Rattle.al_lists.specs.Moves.{is_cut, is_in};
 ghost use Rattle.al_lists.specs.Prepares.{Prepares, PreparesAnywhere};
 
 use crate::prepared::Prepared;
-use al_contents::{Alarm, Change, Contents};
 use al_base::{Copied, Stamp};
+use al_contents::{Alarm, Change, Contents};
 use al_model::Side;
 use al_notify::NotifyRule;
 use al_select::{CompressFilter, PurgeFilter};

@@ -7,8 +7,8 @@ ghost use Rattle.al_base.specs.Texts.{same_text};
 ghost use Rattle.al_contents.specs.Views.{mark_of, states};
 ghost use Rattle.al_lists.specs.Moves.{first_name, is_move};
 
-use al_contents::Alarm;
 use al_base::{Copied, OperatorState, Stamp, Text};
+use al_contents::Alarm;
 use al_ids::AlarmKey;
 use al_model::OperatorEntry;
 use al_shelf::Shelves;

@@ -7,8 +7,8 @@ ghost use Rattle.al_contents.specs.Positions.{IsKnownAt};
 ghost use Rattle.al_lists.specs.Prepares.{Comes, Prepares};
 
 use crate::prepared::Prepared;
-use al_contents::{Change, Contents};
 use al_base::{Copied, OperatorState, Stamp, Text};
+use al_contents::{Change, Contents};
 use al_ids::AlarmKey;
 use al_model::OperatorEntry;
 use al_notify::NoteBody;

@@ -12,8 +12,8 @@ ghost use Rattle.al_lists.specs.Prepares.{Comes, Prepares};
 
 use crate::prepare::moves::{first_name, installed_or, move_entry};
 use crate::prepared::Prepared;
-use al_contents::{Alarm, Change, Contents};
 use al_base::{Copied, Severity, Stamp, Status, Text};
+use al_contents::{Alarm, Change, Contents};
 use al_ids::AlarmKey;
 use al_notify::{NoteBody, NotifyRule};
 use al_types::Inventory;

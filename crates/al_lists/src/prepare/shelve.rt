@@ -11,8 +11,8 @@ ghost use Rattle.al_lists.specs.Prepares.{Comes, Prepares, PreparesMoves, with_s
 
 use crate::prepare::moves::{Moves, installed_or};
 use crate::prepared::Prepared;
-use al_contents::{Change, Contents};
 use al_base::{Copied, Stamp, Text};
+use al_contents::{Change, Contents};
 use al_shelf::{Shelf, Shelves};
 use al_types::Inventory;
 use std::alloc::{AllocError, Global};
