@@ -1,3 +1,4 @@
 pub mod Carrying
 pub mod Paging
+pub mod Showings
 pub mod Values

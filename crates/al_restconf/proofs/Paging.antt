@@ -41,7 +41,7 @@ pub front_none : (count room : ℕ) → front_within count room [] ≡ []
 front_none zero room = refl
 front_none (suc count) room = refl
 
-too_long : (a b : ℕ) (test : Bool) → nat_le a b ≡ test → b < a → test ≡ false
+pub too_long : (a b : ℕ) (test : Bool) → nat_le a b ≡ test → b < a → test ≡ false
 too_long a b true is lt = absurd (omega (arith, leb-true a b is, lt))
 too_long a b false is lt = refl
 
