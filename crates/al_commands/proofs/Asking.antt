@@ -1,22 +1,14 @@
 -- The words ask for one command at most.
-use Rattle.std.proofs.Common.{◌≡◌, ℕ, List, [], ◌∷◌, Option, None, Some, refl, ap, arith}
+use Rattle.std.proofs.Common.{◌≡◌, ℕ, List, [], ◌∷◌, Some, refl, ap, arith}
 use Rattle.std.specs.Prelude.{decimal}
 use Rattle.std.proofs.lemmas.Fmt.{decimal_injective}
-use Rattle.al_commands.specs.Words.{AskFor, IsCheck, IsDrill, IsInit, IsNoRow, IsNoServe, IsSession, IsWithinRow}
+use Rattle.al_commands.specs.Words.{AskFor, IsCheck, IsDrill, IsInit, IsNoRow, IsSession, IsWithinRow}
 use Rattle.al_commands.specs.declared.command.Command.{Command}
-use Rattle.al_commands.specs.declared.command.Command.TheVariants.{Check, Drill, Init, Serve, Session}
-use Rattle.al_commands.specs.declared.serve_words.ServeWords.{ServeWords}
+use Rattle.al_commands.specs.declared.command.Command.TheVariants.{Check, Drill, Init, Session}
 
 -- three words aren't two
 three_or_two : {words : List (List ℕ)} {a b c d e : List ℕ} → words ≡ a ∷ b ∷ c ∷ [] → words ≡ d ∷ e ∷ [] → ⊥
 three_or_two three two = cc
-
--- five words are neither two nor three
-five_or_two : {words : List (List ℕ)} {a b c d e f g : List ℕ} → words ≡ a ∷ b ∷ c ∷ d ∷ e ∷ [] → words ≡ f ∷ g ∷ [] → ⊥
-five_or_two five two = cc
-
-five_or_three : {words : List (List ℕ)} {a b c d e f g h : List ℕ} → words ≡ a ∷ b ∷ c ∷ d ∷ e ∷ [] → words ≡ f ∷ g ∷ h ∷ [] → ⊥
-five_or_three five three = cc
 
 module _ (words : List (List ℕ)) where
   pub asks_init : (command : Command) → AskFor words (Some command) → (capacity : ℕ) → IsInit words capacity → command ≡ Init capacity
@@ -26,21 +18,18 @@ module _ (words : List (List ℕ)) where
   asks_init Session asked capacity is = absurd (three_or_two is.row asked.row)
   asks_init Check asked capacity is = absurd (three_or_two is.row asked.row)
   asks_init (Drill seed count) asked capacity is = absurd (let a = asked.row in let b = is.row in cc)
-  asks_init (Serve serve) asked capacity is = absurd (five_or_three asked.0.row is.row)
 
   pub asks_session : (command : Command) → AskFor words (Some command) → IsSession words → command ≡ Session
   asks_session (Init capacity) asked is = absurd (three_or_two asked.row is.row)
   asks_session Session asked is = refl
   asks_session Check asked is = absurd (let a = asked.row in let b = is.row in cc)
   asks_session (Drill seed count) asked is = absurd (three_or_two asked.row is.row)
-  asks_session (Serve serve) asked is = absurd (five_or_two asked.0.row is.row)
 
   pub asks_check : (command : Command) → AskFor words (Some command) → IsCheck words → command ≡ Check
   asks_check (Init capacity) asked is = absurd (three_or_two asked.row is.row)
   asks_check Session asked is = absurd (let a = asked.row in let b = is.row in cc)
   asks_check Check asked is = refl
   asks_check (Drill seed count) asked is = absurd (three_or_two asked.row is.row)
-  asks_check (Serve serve) asked is = absurd (five_or_two asked.0.row is.row)
 
   pub asks_drill : (command : Command) → AskFor words (Some command) → (seed count : ℕ) → IsDrill words seed count → command ≡ Drill seed count
   asks_drill (Init capacity) asked seed count is = absurd (let a = asked.row in let b = is.row in cc)
@@ -52,24 +41,13 @@ module _ (words : List (List ℕ)) where
       let same_seed : first ≡ seed = decimal_injective first seed (omega (arith, asked.seed_within)) (omega (arith, is.seed_within)) seeds in
       let same_count : second ≡ count = decimal_injective second count (omega (arith, asked.count_within)) (omega (arith, is.count_within)) counts in
       cc
-  asks_drill (Serve serve) asked seed count is = absurd (five_or_three asked.0.row is.row)
 
-  -- they are one of the four rows then, or ask to serve
-  pub asks_row : (command : Command) → AskFor words (Some command) → IsNoRow words → (serve : ServeWords) × (command ≡ Serve serve)
-  asks_row (Init capacity) asked none = absurd (none.no_init capacity asked)
-  asks_row Session asked none = absurd (none.no_session asked)
-  asks_row Check asked none = absurd (none.no_check asked)
-  asks_row (Drill seed count) asked none = absurd (none.no_drill seed count asked)
-  asks_row (Serve serve) asked none = (serve, refl)
-
-  -- words that ask for another command, or for none, don't ask to serve
-  pub asks_no_serve : (asked : Option Command) → AskFor words asked → ((serve : ServeWords) → asked ≡ Some (Serve serve) → ⊥) → IsNoServe words
-  asks_no_serve None asks other = asks.1
-  asks_no_serve (Some (Init capacity)) asks other = λ serve is. five_or_three is.row asks.row
-  asks_no_serve (Some Session) asks other = λ serve is. five_or_two is.row asks.row
-  asks_no_serve (Some Check) asks other = λ serve is. five_or_two is.row asks.row
-  asks_no_serve (Some (Drill seed count)) asks other = λ serve is. five_or_three is.row asks.row
-  asks_no_serve (Some (Serve serve)) asks other = absurd (other serve refl)
+  -- they are a row then
+  pub asks_row : (command : Command) → AskFor words (Some command) → ¬ (IsNoRow words)
+  asks_row (Init capacity) asked none = none.no_init capacity asked
+  asks_row Session asked none = none.no_session asked
+  asks_row Check asked none = none.no_check asked
+  asks_row (Drill seed count) asked none = none.no_drill seed count asked
 
   -- whose numbers are within its bounds
   pub within_row : (command : Command) → AskFor words (Some command) → IsWithinRow command
@@ -77,4 +55,3 @@ module _ (words : List (List ℕ)) where
   within_row Session asked = tt
   within_row Check asked = tt
   within_row (Drill seed count) asked = (asked.seed_within, asked.count_within)
-  within_row (Serve serve) asked = (asked.0.workers.0, asked.0.workers.1, asked.0.connections)

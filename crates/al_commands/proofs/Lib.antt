@@ -1,10 +1,8 @@
 mod Asking
-mod Colons
 mod Digits
 mod Drilling
 mod Keeping
 mod Lines
 mod Numbers
-mod OneServe
 mod Rows
 mod Texts

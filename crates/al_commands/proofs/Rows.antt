@@ -2,17 +2,7 @@
 use Rattle.std.proofs.Common.{◌≡◌, ◌≢◌, ℕ, ◌≤◌, List, [], ◌∷◌, length, ap, sym, ◌∙◌, arith}
 use Rattle.std.specs.Prelude.{codes, decimal}
 use Rattle.std.proofs.lemmas.Fmt.{decimal_injective}
-use Rattle.al_commands.specs.Words.{IsJournal, IsNoRow, IsNoServe}
-
--- five words alone serve
-pub no_serve : (words : List (List ℕ)) → ¬ (length words ≡ 5) → IsNoServe words
-no_serve words five serve is = five (ap length is.row)
-
-pub two_serve_not : (name journal : List ℕ) → IsNoServe (name ∷ journal ∷ [])
-two_serve_not name journal serve is = let row = is.row in cc
-
-pub three_serve_not : (name first second : List ℕ) → IsNoServe (name ∷ first ∷ second ∷ [])
-three_serve_not name first second serve is = let row = is.row in cc
+use Rattle.al_commands.specs.Words.{IsJournal, IsNoRow}
 
 -- neither two words nor three
 pub no_row : (words : List (List ℕ)) → ¬ (length words ≡ 2) → ¬ (length words ≡ 3) → IsNoRow words

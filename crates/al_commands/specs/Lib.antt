@@ -1,4 +1,3 @@
-pub mod Addresses
 pub mod Commands
 pub mod Draws
 pub mod Drills

@@ -1,9 +1,7 @@
 -- The command line: which words are a row of it.
 use Rattle.std.specs.Prelude.{◌≡◌, ◌≤◌, List, [], ◌∷◌, ℕ, Option, None, Some, codes, decimal, length, ⊤}
-use Rattle.al_commands.specs.Addresses.{IsAddress}
 use Rattle.al_commands.specs.declared.command.Command.{Command}
-use Rattle.al_commands.specs.declared.command.Command.TheVariants.{Init, Session, Check, Drill, Serve}
-use Rattle.al_commands.specs.declared.serve_words.ServeWords.{ServeWords}
+use Rattle.al_commands.specs.declared.command.Command.TheVariants.{Init, Session, Check, Drill}
 
 -- the longest name of a journal, in bytes
 abbrev pub journal_limit : ℕ
@@ -44,36 +42,7 @@ pub record IsDrill (words : List (List ℕ)) (seed count : ℕ) : Type 0 where
   pub seed_within : seed ≤ 2147483647
   pub count_within : count ≤ 20000
 
--- the number from 1 on whose digits these are, where it is this great at most
-abbrev pub IsCount : List ℕ → ℕ → Option ℕ → Type 0
-IsCount digits greatest (Some number) = (digits ≡ decimal number) × (1 ≤ number) × (number ≤ greatest)
-IsCount digits greatest None = (number : ℕ) → 1 ≤ number → number ≤ greatest → ¬ (digits ≡ decimal number)
-
--- `serve JOURNAL ADDRESS WORKERS CONNECTIONS`
-pub record IsServe (words : List (List ℕ)) (serve : ServeWords) : Type 0 where
-  pub journal : List ℕ
-  pub address : List ℕ
-  pub row : words ≡ codes "serve" ∷ journal ∷ address ∷ decimal serve.workers ∷ decimal serve.connections ∷ []
-  pub is_journal : IsJournal journal
-  pub is_address : IsAddress address serve.address
-  pub workers : (1 ≤ serve.workers) × (serve.workers ≤ 64)
-  pub connections : (1 ≤ serve.connections) × (serve.connections ≤ 1000000)
-
--- no row that serves
-abbrev pub IsNoServe : List (List ℕ) → Type 0
-IsNoServe words = (serve : ServeWords) → ¬ (IsServe words serve)
-
--- how the words ask to serve
-abbrev pub AskToServe : List (List ℕ) → Option ServeWords → Type 0
-AskToServe words (Some serve) = IsServe words serve
-AskToServe words None = IsNoServe words
-
--- The words ask to serve with no other numbers.
-pub record IsOneServe (words : List (List ℕ)) (serve : ServeWords) : Type 0 where
-  pub workers : (other : ServeWords) → IsServe words other → other.workers ≡ serve.workers
-  pub connections : (other : ServeWords) → IsServe words other → other.connections ≡ serve.connections
-
--- No row of the four that `run` does.
+-- No row of these four.
 pub record IsNoRow (words : List (List ℕ)) : Type 0 where
   pub no_init : (capacity : ℕ) → ¬ (IsInit words capacity)
   pub no_session : ¬ (IsSession words)
@@ -86,19 +55,16 @@ AskFor words (Some (Init capacity)) = IsInit words capacity
 AskFor words (Some Session) = IsSession words
 AskFor words (Some Check) = IsCheck words
 AskFor words (Some (Drill seed count)) = IsDrill words seed count
-AskFor words (Some (Serve serve)) = IsServe words serve × IsOneServe words serve
-AskFor words None = IsNoRow words × IsNoServe words
+AskFor words None = IsNoRow words
 
 -- a fact for each command
-abbrev pub ByCommand : Command → (ℕ → Type 0) → Type 0 → Type 0 → (ℕ → ℕ → Type 0) → (ServeWords → Type 0) → Type 0
-ByCommand (Init capacity) init session check drill serve = init capacity
-ByCommand Session init session check drill serve = session
-ByCommand Check init session check drill serve = check
-ByCommand (Drill seed count) init session check drill serve = drill seed count
-ByCommand (Serve words) init session check drill serve = serve words
+abbrev pub ByCommand : Command → (ℕ → Type 0) → Type 0 → Type 0 → (ℕ → ℕ → Type 0) → Type 0
+ByCommand (Init capacity) init session check drill = init capacity
+ByCommand Session init session check drill = session
+ByCommand Check init session check drill = check
+ByCommand (Drill seed count) init session check drill = drill seed count
 
 -- the numbers of a command are within the bounds of its row
 abbrev pub IsWithinRow : Command → Type 0
 IsWithinRow command =
     ByCommand command (λ capacity. (4096 ≤ capacity) × (capacity ≤ 268435456)) ⊤ ⊤ (λ seed count. (seed ≤ 2147483647) × (count ≤ 20000))
-    (λ serve. (1 ≤ serve.workers) × (serve.workers ≤ 64) × (1 ≤ serve.connections) × (serve.connections ≤ 1000000))

@@ -4,7 +4,7 @@ ghost use Rattle.std.specs.Prelude.{◌≡◌, ◌≢◌, ◌≤◌, ◌++◌};
 ghost use Rattle.al_base.specs.Outside.{Rose};
 ghost use Rattle.al_commands.specs.Commands.{HasChecked};
 ghost use Rattle.al_commands.specs.Lines.{Tells, check_lines, counts_text, fault_line, line_end};
-ghost use Rattle.al_commands.specs.Statuses.{status_of_fault, status_read_fault, status_write_fault};
+ghost use Rattle.al_commands.specs.Statuses.{status_done, status_of_fault, status_read_fault, status_write_fault};
 
 use crate::line::{Count, tell, tell_counts};
 use crate::status::{DISK_FAULT, DONE, INVALID, JOURNAL, OUT_OF_MEMORY};

@@ -1,7 +1,6 @@
-ghost use Rattle.std.specs.Prelude.{◌≡◌, ◌↔◌, ◌∷◌, [], IsTrue, codes, decimal, length};
+ghost use Rattle.std.specs.Prelude.{◌≡◌, ◌≤◌, ◌↔◌, ◌∷◌, [], IsTrue, codes, decimal, length};
 ghost use Rattle.al_commands.specs.Words.{AskFor, IsJournal, IsNumber};
 
-use crate::serve_words::{ServeWords, serve};
 use al_base::Text;
 use itoa::Buffer;
 use std::str;
@@ -17,8 +16,6 @@ pub enum Command {
     Check,
     /// `drill SEED COUNT`: to answer made-up requests over a journal in memory.
     Drill { seed: u64, count: u64 },
-    /// `serve JOURNAL ADDRESS WORKERS CONNECTIONS`: to answer the requests of connections.
-    Serve(ServeWords),
 }
 
 /// The longest name of a journal, in bytes.
@@ -40,13 +37,6 @@ impl Command {
         match words {
             [name, journal] => of_two(name.bytes(), journal.bytes()),
             [name, first, second] => of_three(name.bytes(), first.bytes(), second.bytes()),
-            [name, journal, address, workers, connections] => of_five(
-                name.bytes(),
-                journal.bytes(),
-                address.bytes(),
-                workers.bytes(),
-                connections.bytes(),
-            ),
             _ => None,
         }
     }
@@ -79,23 +69,6 @@ fn of_three(name: &[u8], first: &[u8], second: &[u8]) -> Option<Command>
     None
 }
 
-fn of_five(
-    name: &[u8],
-    journal: &[u8],
-    address: &[u8],
-    workers: &[u8],
-    connections: &[u8],
-) -> Option<Command>
-    ensures { AskFor (name.now ∷ journal.now ∷ address.now ∷ workers.now ∷ connections.now ∷ [])
-        result }
-{
-    if name != b"serve".as_slice() {
-        return None;
-    }
-    let serve = serve(journal, address, workers, connections)?;
-    Some(Command::Serve(serve))
-}
-
 fn init(journal: &[u8], capacity: &[u8]) -> Option<Command>
     ensures { AskFor (codes "init" ∷ journal.now ∷ capacity.now ∷ []) result }
 {
@@ -116,15 +89,14 @@ fn drill(seed: &[u8], count: &[u8]) -> Option<Command>
 }
 
 /// Whether this may name a journal: by its length alone.
-pub(crate) fn is_journal(journal: &[u8]) -> bool
+pub fn is_journal(journal: &[u8]) -> bool
     ensures { IsTrue result ↔ IsJournal journal.now }
 {
     !journal.is_empty() && journal.len() <= JOURNAL_LIMIT
 }
 
-/// The number that the digits write. None where it is above `greatest`, or where they have a sign
-/// or a needless leading zero.
-pub(crate) fn number(digits: &[u8], greatest: u64) -> Option<u64>
+/// The number that the digits are, without sign or needless leading zero, where it is this great at most.
+pub fn number(digits: &[u8], greatest: u64) -> Option<u64>
     ensures { IsNumber digits.now greatest result }
 {
     let Ok(text) = str::from_utf8(digits) else {

@@ -1,6 +1,6 @@
 //! The numbers of a drill, and the requests that they make.
 
-ghost use Rattle.std.specs.Prelude.{◌≡◌, ◌<◌, ◌%◌, IfOk, string_bytes};
+ghost use Rattle.std.specs.Prelude.{◌≡◌, ◌<◌, ◌≤◌, ◌%◌, ℕ, IfOk, string_bytes};
 ghost use Rattle.al_commands.specs.Draws.{acknowledge_text, drawn, drop_shelf_text, install_text, next_number, put_shelf_text, report_text, text_by, with_body};
 
 use std::alloc::{AllocError, Global};

@@ -58,8 +58,7 @@ impl Model for Drill {
         × (d.turns.seen.fixed.capacity ≡ drill_capacity) };
 }
 
-/// Sends a request that installs an inventory, and then `count` requests that the seed gives. It
-/// tells what the answers and the history at the end are, in numbers.
+/// Answers so many requests that the seed gives, behind one that installs an inventory, and tells what came of them.
 pub fn run_drill<O: Sink>(alloc: Global, seed: u64, count: u64, sink: &mut O) -> u8
     requires seed { seed ≤ 2147483647 }
     requires count { count ≤ 20000 }
@@ -204,7 +203,7 @@ impl Drill {
         Ok(())
     }
 
-    /// Ends the drill, and gives its counts. `count` requests were sent behind the first one.
+    /// What came of the requests, of which there were so many behind the first. It ends the drill.
     fn into_counts(self, count: u64) -> [Count; 8]
         requires { count ≤ 20000 }
         ensures { counts_text result ++ line_end ≡ drill_lines count self }

@@ -9,10 +9,8 @@ pub mod drill;
 pub mod line;
 pub mod making;
 pub mod program;
-pub mod serve_words;
 pub mod session;
 pub mod status;
 
 pub use command::Command;
 pub use program::run;
-pub use serve_words::{Address, ServeWords};

@@ -1,10 +1,11 @@
 //! The lines that the program prints.
 
-ghost use Rattle.std.specs.Prelude.{◌≢◌, ◌≤◌, ◌++◌, decimal, OnErr, OnOk};
+ghost use Rattle.std.specs.Prelude.{◌≡◌, ◌≢◌, ◌≤◌, ◌++◌, decimal, OnErr, OnOk};
 ghost use Rattle.std.specs.Io.KnownBytes.{Appends};
 ghost use Rattle.al_base.specs.Outside.{Rose};
 ghost use Rattle.al_http.specs.Fronts.{AppendsFront};
 ghost use Rattle.al_commands.specs.Lines.{Tells, counts_text, line_end};
+ghost use Rattle.al_commands.specs.Statuses.{status_read_fault, status_write_fault};
 
 use crate::status::SINK_FAULT;
 use al_base::{Sink, WriteFault};

@@ -23,10 +23,7 @@ use std::alloc::Global;
 const USAGE: &[u8] =
     b"usage: alarmd init JOURNAL CAPACITY / session JOURNAL / check JOURNAL / drill SEED COUNT / serve JOURNAL ADDRESS WORKERS CONNECTIONS\n";
 
-/// Does what the words ask for, and answers the program's exit status and the disk. The journal is
-/// the disk that is handed in.
-///
-/// It has no doors: the words of `serve` get the usage line here, and are done by al_server.
+/// Does what the words ask for, and answers the program's exit status and the disk. The journal is the disk that is handed in.
 pub fn run<D: Disk, S: Source, O: Sink, K: Clock>(
     alloc: Global,
     words: &[Text],
@@ -139,8 +136,6 @@ fn run_command<D: Disk, S: Source, O: Sink, K: Clock>(
           new_output = O.held sink.new;
         }) result.0)
         (λ seed count. Drills seed count (O.held sink.old) (O.held sink.new) result.0
-        × (result.1 ≡ disk))
-        (λ serve. Tells usage_line status_bad_words (O.held sink.old) (O.held sink.new) result.0
         × (result.1 ≡ disk)) }
     ensures untouched { command ≢ Command.Session → (source.new ≡ source.old)
         × (clock.new ≡ clock.old) }
@@ -157,7 +152,6 @@ fn run_command<D: Disk, S: Source, O: Sink, K: Clock>(
         Command::Session => run_session(alloc, disk, source, sink, clock),
         Command::Check => run_check(alloc, disk, sink),
         Command::Drill { seed, count } => (run_drill(alloc, seed, count, sink), disk),
-        Command::Serve(_) => (refuse_words(sink), disk),
     }
 }
 

@@ -1,6 +1,6 @@
 //! A conversation: the requests of a source are answered one after the other into a sink, by any service, one turn each.
 
-ghost use Rattle.std.specs.Prelude.{◌≡◌, ◌≤◌, ◌<◌, ◌+◌, false, true, IfOk, OnErr};
+ghost use Rattle.std.specs.Prelude.{◌≡◌, ◌≤◌, ◌<◌, ◌+◌, false, true, length, IfOk, OnErr};
 ghost use Rattle.al_base.specs.Outside.{Rose};
 ghost use Rattle.al_http.specs.Requests.{is_last};
 ghost use Rattle.al_http.specs.Responses.{HasText};

@@ -1,6 +1,6 @@
 //! The door by which connections come.
 
-ghost use Rattle.std.specs.Prelude.{◌≤◌, ◌<◌, IfOk, IfSome, IfNone, OnErr};
+ghost use Rattle.std.specs.Prelude.{◌≡◌, ◌≤◌, ◌<◌, ℕ, IfOk, IfSome, IfNone, OnErr};
 ghost use Rattle.al_base.specs.Outside.{Rose};
 ghost use Rattle.al_serve.specs.Doors.{DoorState, Gives, IsAtEnd, StaysOpen, TakesBack, connection_of};
 

@@ -1,6 +1,6 @@
 //! A worker: one thread's part of the serving, with a pass at the turnstile and a door of its own.
 
-ghost use Rattle.std.specs.Prelude.{◌≡◌, ◌<◌, ◌*◌, All, false, true};
+ghost use Rattle.std.specs.Prelude.{◌≡◌, ◌≤◌, ◌<◌, ◌*◌, All, false, true};
 ghost use Rattle.al_serve.specs.declared.worker.Worker.{Worker};
 ghost use Rattle.al_http.specs.Streams.{request_limit};
 ghost use Rattle.al_serve.specs.Left.{HasTurns, IsCounted};

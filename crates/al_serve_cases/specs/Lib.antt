@@ -1,1 +1,1 @@
-pub mod Adders
+pub mod Tallies

@@ -4,6 +4,8 @@
 #![tactic(auto)]
 
 #[cfg(test)]
-mod adder;
+mod gated;
 #[cfg(test)]
 mod serving;
+#[cfg(test)]
+mod tally;

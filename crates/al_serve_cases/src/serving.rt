@@ -4,9 +4,9 @@ ghost use Rattle.al_serve.specs.Workers.{IsReady, work_of};
 ghost use Rattle.al_http.specs.Streams.{request_limit};
 ghost use Rattle.std.specs.Prelude.{◌≡◌, ◌≤◌, ◌*◌, All, Some, IfOk, vec_len};
 
-use crate::adder::Adder;
+use crate::gated::{Count, CountedSink, GatedSource, Piece};
+use crate::tally::{Adder, Tally};
 use al_base::{MemClock, MemSink, MemSource};
-use al_case_parts::{Count, CountedSink, GatedSource, Piece, Tally};
 use al_http::Framer;
 use al_model::Kept;
 use al_serve::{Cause, Doors, MemDoors, Worker, converse, work, work_all};
@@ -65,19 +65,15 @@ fn both<N: Doors>(
     Ok(workers)
 }
 
-/// A door with one connection. Each of its pieces waits for so many writes of the other one.
+/// A door with one connection, which waits for the writes of the other one.
 fn gated_door(
     alloc: Global,
-    pieces: &[(u64, &[u8])],
+    pieces: &[Piece],
     others: &Count,
     writes: &Count,
 ) -> Result<MemDoors<GatedSource, CountedSink>, Fail> {
-    let mut gated = Vec::new(alloc);
-    for (count, bytes) in pieces {
-        gated.push(Piece::of(alloc, *count, bytes)?)?;
-    }
-    let source = GatedSource::new(gated, others)?;
-    let sink = CountedSink::new(alloc, 1_000, writes)?;
+    let source = GatedSource::new(alloc, pieces, others)?;
+    let sink = CountedSink::new(alloc, writes)?;
     Ok(MemDoors::new(alloc, vec![in alloc; (source, sink)]?, &[])?)
 }
 
@@ -195,7 +191,7 @@ fn serve_one<R: Wait>(
 }
 
 #[test]
-fn a_worker_ends_each_connection_apart_and_counts_it(rt: HostRuntime) -> Result<(), Fail> {
+fn one_worker_serves_its_door(rt: HostRuntime) -> Result<(), Fail> {
     for (inputs, fails, done, written) in CASES {
         let (did, wrote) = serve_one(&rt, rt.alloc(), inputs, fails)?;
         assert_eq!(rt; did, *done);
@@ -205,7 +201,7 @@ fn a_worker_ends_each_connection_apart_and_counts_it(rt: HostRuntime) -> Result<
 }
 
 #[test]
-fn an_input_that_is_cut_is_answered_up_to_there(rt: HostRuntime) -> Result<(), Fail> {
+fn one_owner_converses(rt: HostRuntime) -> Result<(), Fail> {
     let alloc = rt.alloc();
     let mut alone = Alone::new(Tally::new(alloc));
     let mut framer = Framer::new(alloc)?;

@@ -1,8 +1,10 @@
+mod Colons
 mod Ends
 mod Fresh
 mod Fronts
 mod Hiring
 mod Keeping
+mod OneServe
 mod Sending
 mod Shifts
 mod Stations

@@ -1,10 +1,11 @@
 -- The workers of a server, from the passes that they are made with to those that they leave.
 use Rattle.std.specs.Prelude.{◌≡◌, ℕ, ◌+◌, ◌≤◌, Bool, IsSome, Option, Some, List, [], ◌∷◌, length, map, slice_get, sum_by, vec_capacity, vec_len, ⊤}
-use Rattle.std.specs.List.{AllByRecursion, list_any}
+use Rattle.std.specs.List.{AllByRecursion, AllZip, list_any}
 use Rattle.std.specs.VecDeque.{deque_capacity}
 use Rattle.al_base.specs.Readings.{Readings}
+use Rattle.al_restconf.specs.Machine.{IsAnswer}
 use Rattle.al_serve.specs.Doors.{DoorState}
-use Rattle.al_serve.specs.Workers.{Work}
+use Rattle.al_serve.specs.Workers.{HasWorked, Work}
 use Rattle.al_turn.specs.Passes.{LockState, PassState}
 use Rattle.al_turn.specs.Views.{turns_at_first}
 use Rattle.al_server.specs.declared.crew.Room.{Room}
@@ -86,3 +87,11 @@ pub record AreDismissed (works : List Work) (passes : List PassState) (doors : L
   pub doors_are : doors_of works ≡ doors
   pub connections_are : connections ≡ served_of works
   pub faulted_is : faulted ≡ any_failed works
+
+-- Workers with these passes, doors and clocks have worked, and left those passes and doors.
+pub record HaveWorked (connections : ℕ) (passes : List PassState) (doors : List DoorState) (clocks : List (Option Readings)) (last_passes : List PassState) (last_doors : List DoorState) (served : ℕ) (faulted : Bool) : Type 0 where
+  pub works : List Work
+  pub last_works : List Work
+  pub hired : AreHired connections passes doors clocks works
+  pub worked : AllZip (HasWorked IsAnswer) works last_works
+  pub dismissed : AreDismissed last_works last_passes last_doors served faulted

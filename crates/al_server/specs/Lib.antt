@@ -1,2 +1,4 @@
+pub mod Addresses
 pub mod Crews
+pub mod ServeWords
 pub mod Serving

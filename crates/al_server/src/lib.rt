@@ -2,6 +2,8 @@
 #![tactic(auto)]
 
 mod crew;
+pub mod serve_words;
 pub mod serving;
 
+pub use serve_words::{Address, ServeWords};
 pub use serving::run_serve;

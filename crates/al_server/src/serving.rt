@@ -1,20 +1,20 @@
 //! `serve`: workers answer the connections of their doors over the history of a journal.
 
-ghost use Rattle.std.specs.Prelude.{◌≡◌, ◌≢◌, ◌+◌, ◌-◌, ◌<◌, ◌≤◌, ◌⊎◌, IfErr, IfOk, OnErr, OnOk, length, map, vec_len};
+ghost use Rattle.std.specs.Prelude.{◌≡◌, ◌≢◌, ◌+◌, ◌++◌, ◌-◌, ◌<◌, ◌≤◌, ◌⊎◌, ◌^◌, [], IfErr, IfOk, OnErr, OnOk, length, map, vec_len};
 ghost use Rattle.std.specs.Io.KnownBytes.{Appends};
 ghost use Rattle.al_base.specs.Outside.{Rose};
 ghost use Rattle.al_http.specs.Fronts.{AppendsFront};
 ghost use Rattle.al_office.specs.Journaled.{journaled_mark};
 ghost use Rattle.al_server.specs.Crews.{IsRoom};
 ghost use Rattle.al_commands.specs.Lines.{Tells, usage_line};
+ghost use Rattle.al_server.specs.ServeWords.{IsNoServe, IsServe};
 ghost use Rattle.al_server.specs.Serving.{EndsShift, HasNotServed, HasServed, OneRose, served_line, status_by};
 ghost use Rattle.al_commands.specs.Statuses.{status_bad_words, status_door_fault, status_write_fault};
-ghost use Rattle.al_commands.specs.Words.{IsNoServe, IsServe};
-ghost use Rattle.al_commands.specs.declared.serve_words.ServeWords.{ServeWords};
+ghost use Rattle.al_server.specs.declared.serve_words.ServeWords.{ServeWords};
 
 use crate::crew::{Room, Served, all_passes, dismiss, hire};
+use crate::serve_words::ServeWords;
 use al_base::{Clock, Sink, Text, WriteFault};
-use al_commands::ServeWords;
 use al_commands::checking::tell_fault;
 use al_commands::line::{Count, write_count};
 use al_commands::program::refuse_words;

@@ -4,6 +4,8 @@
 #![tactic(auto)]
 
 #[cfg(test)]
+mod gated;
+#[cfg(test)]
 mod made;
 #[cfg(test)]
 mod rows;

@@ -1,12 +1,12 @@
 //! The words, disks and requests of the cases.
 
 ghost use Rattle.std.specs.Prelude.{◌≡◌, IfOk, vec_len};
-ghost use Rattle.al_commands.specs.Words.{IsServe};
-ghost use Rattle.al_commands.specs.declared.serve_words.ServeWords.{ServeWords};
+ghost use Rattle.al_server.specs.ServeWords.{IsServe};
+ghost use Rattle.al_server.specs.declared.serve_words.ServeWords.{ServeWords};
 
 use al_base::{MemClock, Text, TextFault};
-use al_commands::ServeWords;
 use al_disk::MemDisk;
+use al_server::ServeWords;
 use std::alloc::{AllocError, Global};
 
 /// A journal of capacity 1,048,576 without entries.

@@ -312,7 +312,7 @@ fn ends_so<R: Threads + Wait + Sync>(rt: &R, alloc: Global, row: &Row) -> Result
 }
 
 #[test]
-fn each_row_gets_its_status_output_and_answers(rt: HostRuntime) -> Result<(), Fail> {
+fn rows_end_as_they_do(rt: HostRuntime) -> Result<(), Fail> {
     for row in &ROWS {
         assert!(rt; ends_so(&rt, rt.alloc(), row)?);
     }
@@ -320,7 +320,7 @@ fn each_row_gets_its_status_output_and_answers(rt: HostRuntime) -> Result<(), Fa
 }
 
 #[test]
-fn words_that_are_no_row_get_the_usage_line(rt: HostRuntime) -> Result<(), Fail> {
+fn other_words_are_no_row(rt: HostRuntime) -> Result<(), Fail> {
     for words in &NO_ROWS {
         let row = Row {
             words,

@@ -1,8 +1,8 @@
 //! Two connections that are served at the same time, over a history of 300 alarms.
 
+use crate::gated::{Count, CountedSink, GatedSource, Piece};
 use crate::made::{EMPTY, clocks_of, disk_of, inventory, report, shelf, words_of, workers_of};
 use al_base::MemSink;
-use al_case_parts::{Count, CountedSink, GatedSource, Piece};
 use al_serve::MemDoors;
 use al_server::run_serve;
 use std::alloc::{AllocError, Global};
@@ -48,7 +48,7 @@ fn door_of(
     writes: &Count,
 ) -> Result<Door, AllocError> {
     let source = GatedSource::new(pieces, others)?;
-    let sink = CountedSink::new(alloc, 100_000, writes)?;
+    let sink = CountedSink::new(alloc, writes)?;
     MemDoors::new(alloc, vec![in alloc; (source, sink)]?, &[])
 }
 
@@ -151,7 +151,7 @@ fn is_answered(bytes: &[u8]) -> bool {
 /// No request of the two is refused, the acknowledgement is read back, and the line counts the entries of both: an inventory, five shelves, 300 alarms and an
 /// acknowledgement.
 #[test]
-fn two_open_connections_are_answered_side_by_side(rt: HostRuntime) -> Result<(), Fail> {
+fn two_are_served_together(rt: HostRuntime) -> Result<(), Fail> {
     assert!(rt; are_served(&rt, rt.alloc())?);
     Ok(())
 }

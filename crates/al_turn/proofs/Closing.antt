@@ -9,7 +9,7 @@ use Rattle.atomic_table.specs.Seated.{TableId}
 use Rattle.atomic_table.specs.Table.{Final, Me, Seen, State}
 use Rattle.std.specs.List.{AllByRecursion}
 use Rattle.al_model.specs.declared.kept.Mark.{Mark}
-use Rattle.al_turn.proofs.ViewLists.{is_within}
+use Rattle.al_turn.proofs.Places.{is_place}
 use Rattle.al_turn.specs.Histories.{GoesOn, Numbered, entries_of}
 use Rattle.al_turn.specs.Passes.{AllPasses, Closed, Ended, PassState}
 use Rattle.al_turn.specs.Rule.{Gathered, Past, Turning}
@@ -80,11 +80,11 @@ module _ {T : Type 0} (mark : T → Mark) (start : Mark) (s : State (Option T) V
   spent : (by : ℕ) (u : View) → get_elem? s.views by ≡ options.some u → 0 < u.number → by ≢ id → ⊥
   spent zero u at_u live ne =
       let number = last_number in
-      let number_is = (r.fits id last at (omega arith)).number in
+      let place = (r.fits id last at (omega arith)).number in
       ne (omega arith)
   spent (suc k) u at_u live ne =
       let views = all_views in
-      let within = is_within s.views (suc k) u at_u in
+      let place = is_place s.views (suc k) u at_u in
       let p = get_here others k (omega arith) in
       let number : p.0.view.number ≡ suc k + 1 = (all.each (suc k) p.0 p.1).0 in
       let zero_is = (past_of k p.0 p.1).spent (suc k) u (omega arith) at_u in

@@ -7,7 +7,7 @@ use Rattle.atomic_table.proofs.Lists.{at_set, set_else}
 use Rattle.atomic_table.specs.Table.{State}
 use Rattle.al_model.specs.declared.kept.Mark.{Mark}
 use Rattle.al_turn.proofs.Grows.{goes_further}
-use Rattle.al_turn.proofs.ViewLists.{each_set, total_set}
+use Rattle.al_turn.proofs.Places.{each_set, total_set}
 use Rattle.al_turn.specs.Histories.{GoesOn, Numbered, entries_of}
 use Rattle.al_turn.specs.Rule.{Fits, Gathered, HomeIs, InLine, Turning, to_draw}
 use Rattle.al_turn.specs.Views.{rank}

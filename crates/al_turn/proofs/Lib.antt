@@ -1,6 +1,6 @@
 pub mod Grows
 pub mod Keeps
-pub mod ViewLists
+pub mod Places
 pub mod Moves
 pub mod Seats
 pub mod Splits

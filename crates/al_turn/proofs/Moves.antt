@@ -11,7 +11,7 @@ use Rattle.atomic_table.specs.Table.Act.{keeps, takes, gives}
 use Rattle.al_model.specs.declared.kept.Mark.{Mark}
 use Rattle.al_turn.proofs.Grows.{goes_further, goes_on_itself, is_longer, numbered_longer, own_stays}
 use Rattle.al_turn.proofs.Keeps.{Change, home_stays, keeps_rule}
-use Rattle.al_turn.proofs.ViewLists.{draws_idle, draws_waiting, draws_within, is_within}
+use Rattle.al_turn.proofs.Places.{draws_idle, draws_waiting, draws_within, is_place}
 use Rattle.al_turn.specs.Histories.{GoesOn, MadeBy, further}
 use Rattle.al_turn.specs.Rule.{InLine, Turning, to_draw}
 use Rattle.al_turn.specs.Views.{Fetched, Found, GivenBack, counted, drew, ended, fetched, looked, rank}
@@ -149,7 +149,7 @@ module _ {T : Type 0} (mark : T → Mark) (start : Mark) where
         live = live;
         joined = refl;
         behind = r.behind;
-        home = inr (refl, (id, w, set_here s.views id w (is_within s.views id v at), refl));
+        home = inr (refl, (id, w, set_here s.views id w (is_place s.views id v at), refl));
         others = line_of s r id;
         mine = record { waits = λ h. line.waits (omega arith); turn = λ h. line.turn (omega arith) };
         lone = λ by u ne at_by waits_by waits. alone_with s r id v at (omega arith) by u ne at_by waits_by;
@@ -192,7 +192,7 @@ module _ {T : Type 0} (mark : T → Mark) (start : Mark) where
       let sum_now : length r.now.entries + added ≡ length (mark x).entries = subst (λ (m : Mark). length m.entries + added ≡ length (mark x).entries) now_is sum in
       let deep = is_longer start.entries r.now.entries r.goes_on.begins in
       let number = f.number in
-      let within = is_within s.views id v at in
+      let place = is_place s.views id v at in
       let draw_v : to_draw v ≡ v.left - 1 = draws_waiting v (omega arith) in
       let home = one_home s r in
       let change : Change mark start s r id v w r.drawn r.serving (mark x) (options.some (Some x) ∷ []) = record {

@@ -8,14 +8,14 @@ use Rattle.atomic_table.specs.Table.{Joins, Splits}
 use Rattle.al_model.specs.declared.kept.Mark.{Mark}
 use Rattle.al_turn.proofs.Grows.{is_longer, none_yet, numbered_more}
 use Rattle.al_turn.proofs.Keeps.{home_stays}
-use Rattle.al_turn.proofs.ViewLists.{each_set, is_within, total-append, total_set}
+use Rattle.al_turn.proofs.Places.{each_set, is_place, total-append, total_set}
 use Rattle.al_turn.specs.Histories.{Numbered, entries_of}
 use Rattle.al_turn.specs.Rule.{Fits, Gathered, InLine, Past, Turning}
 use Rattle.al_turn.specs.Views.{joined_of, next_view, one_more, rank, spent_view, with_joined}
 use Rattle.al_turn.specs.declared.view.Joined.{Joined}
 use Rattle.al_turn.specs.declared.view.View.{View}
 
--- one more view behind the others: which one stands at an index
+-- one more view behind the others: which one stands at a place
 at_one_more : (views : List View) (w : View) (by : ℕ) (u : View) → get_elem? (views ++ w ∷ []) by ≡ options.some u → ((by ≡ length views) × (w ≡ u)) ⊎ ((by < length views) × (get_elem? views by ≡ options.some u))
 at_one_more [] w zero u at = inl (refl, some-injective w u at)
 at_one_more [] w (suc by) u at = absurd (options.some-ne-none u (sym at))
@@ -53,7 +53,7 @@ module _ {T : Type 0} (mark : T → Mark) (start : Mark) where
       let new = next_view v in
       let f = r.fits id v at (omega arith) in
       let made = f.counts first in
-      let present = is_within s.views id v at in
+      let present = is_place s.views id v at in
       let changed = set s.views id w in
       let all = changed ++ new ∷ [] in
       let n = length-set s.views id w in
@@ -85,7 +85,7 @@ module _ {T : Type 0} (mark : T → Mark) (start : Mark) where
             (record { waits = λ h. absurd (omega arith); turn = λ h. absurd (omega arith) })
             (each_set (λ by u. InLine r.drawn r.serving u) s.views id w (let l = r.line id v at in record { waits = l.waits; turn = l.turn }) (λ by u ne at_by. r.line by u at_by));
         apart = λ i j u x at_i at_j waits_i waits_j same.
-            let stands : (k : ℕ) (y : View) → get_elem? all k ≡ options.some y → 1 ≤ rank y.stage → get_elem? s.views k ≡ options.some y = λ k y at_y waits.
+            let place : (k : ℕ) (y : View) → get_elem? all k ≡ options.some y → 1 ≤ rank y.stage → get_elem? s.views k ≡ options.some y = λ k y at_y waits.
             ⊎_elim
             (λ p. let none : rank new.stage ≡ rank y.stage = ap (λ (z : View). rank z.stage) p.1 in absurd (omega arith))
             (λ p. ⊎_elim
@@ -93,7 +93,7 @@ module _ {T : Type 0} (mark : T → Mark) (start : Mark) where
             (λ q. q.1)
             (at_set s.views id k w y p.1))
             (at_one_more changed new k y at_y) in
-            r.apart i j u x (stands i u at_i waits_i) (stands j x at_j waits_j) waits_i waits_j same;
+            r.apart i j u x (place i u at_i waits_i) (place j x at_j waits_j) waits_i waits_j same;
         fits = subst (λ (k : ℕ). (by : ℕ) (u : View) → get_elem? all by ≡ options.some u → 0 < u.number → Fits start k r.now by u) (sym longer)
             (each_more (λ by u. 0 < u.number → Fits start (suc (length s.views)) r.now by u) changed new
             (λ live. record {
@@ -108,7 +108,7 @@ module _ {T : Type 0} (mark : T → Mark) (start : Mark) where
             })
             (each_set (λ by u. 0 < u.number → Fits start (suc (length s.views)) r.now by u) s.views id w
             (λ live. record { number = f.number; counts = λ one. omega arith; base = f.base; seen = f.seen; deep = f.deep; own_now = f.own_now; looks = f.looks })
-            (λ by u ne at_by live. let g = r.fits by u at_by live in let number_is = g.number in let mine = f.number in
+            (λ by u ne at_by live. let g = r.fits by u at_by live in let place = g.number in let mine = f.number in
             record { number = g.number; counts = λ one. absurd (ne (omega arith)); base = g.base; seen = g.seen; deep = g.deep; own_now = g.own_now; looks = g.looks })));
         gone = each_more (λ by u. Gathered start all r.now u.joined) changed new tt
             (each_set (λ by u. Gathered start all r.now u.joined) s.views id w (gone v.joined (r.gone id v at)) (λ by u ne at_by. gone u.joined (r.gone by u at_by)));
@@ -134,7 +134,7 @@ module _ {T : Type 0} (mark : T → Mark) (start : Mark) where
       let room = r.room in
       let few = r.few in
       let other_number = g.number in
-      let other_within = is_within s.views other w at_w in
+      let other_place = is_place s.views other w at_w in
       let gone : (js : List Joined) → Gathered start s.views r.now js → Gathered start all r.now js =
       gathered_more s.views all r.now (omega arith)
       (λ k u within at_u old. ⊎_elim
@@ -153,7 +153,7 @@ module _ {T : Type 0} (mark : T → Mark) (start : Mark) where
         seen = g.seen;
         own_now = subst (λ (k : ℕ). entries_of r.now.entries w.number k ≡ entries_of w.seen.entries w.number k) g.base g.own_now;
       } in
-      let stands : (k : ℕ) (y : View) → get_elem? all k ≡ options.some y → 1 ≤ rank y.stage → get_elem? s.views k ≡ options.some y = λ k y at_y waits.
+      let place : (k : ℕ) (y : View) → get_elem? all k ≡ options.some y → 1 ≤ rank y.stage → get_elem? s.views k ≡ options.some y = λ k y at_y waits.
       ⊎_elim
       (λ p. let none : 0 ≡ rank y.stage = ap (λ (z : View). rank z.stage) p.1 in absurd (omega arith))
       (λ p. ⊎_elim
@@ -172,7 +172,7 @@ module _ {T : Type 0} (mark : T → Mark) (start : Mark) where
         line = each_set (λ by u. InLine r.drawn r.serving u) changed other spent_view
             (record { waits = λ h. absurd (omega arith); turn = λ h. absurd (omega arith) })
             (λ by u _ at_by. each_set (λ by u. InLine r.drawn r.serving u) s.views id both (let l = r.line id v at in record { waits = l.waits; turn = l.turn }) (λ by u ne at_by. r.line by u at_by) by u at_by);
-        apart = λ i j u x at_i at_j waits_i waits_j same. r.apart i j u x (stands i u at_i waits_i) (stands j x at_j waits_j) waits_i waits_j same;
+        apart = λ i j u x at_i at_j waits_i waits_j same. r.apart i j u x (place i u at_i waits_i) (place j x at_j waits_j) waits_i waits_j same;
         fits = subst (λ (k : ℕ). (by : ℕ) (u : View) → get_elem? all by ≡ options.some u → 0 < u.number → Fits start k r.now by u) (sym same_length)
             (each_set (λ by u. 0 < u.number → Fits start (length s.views) r.now by u) changed other spent_view (λ none. absurd (omega arith))
             (λ by u _ at_by. each_set (λ by u. 0 < u.number → Fits start (length s.views) r.now by u) s.views id both

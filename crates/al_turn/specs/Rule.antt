@@ -23,9 +23,9 @@ pub record InLine (drawn serving : ℕ) (v : View) : Type 0 where
   pub waits : 1 ≤ rank v.stage → (serving ≤ v.ticket) × (v.ticket < drawn) × (0 < v.left) × (0 < v.number)
   pub turn : 2 ≤ rank v.stage → v.ticket ≡ serving
 
--- What a pass that isn't spent, at the index, knows of the history now.
-pub record Fits (start : Mark) (count : ℕ) (now : Mark) (index : ℕ) (v : View) : Type 0 where
-  pub number : v.number ≡ suc index
+-- What a pass that isn't spent, at the place, knows of the history now.
+pub record Fits (start : Mark) (count : ℕ) (now : Mark) (place : ℕ) (v : View) : Type 0 where
+  pub number : v.number ≡ suc place
   pub counts : v.number ≡ 1 → v.made ≡ count
   pub base : v.base ≡ length start.entries
   pub seen : GoesOn v.seen now

@@ -1,6 +1,6 @@
 //! What each atomic step of the turnstile tells the pass that makes it.
-ghost use Rattle.al_turn.specs.Views.{Fetched, GivenBack, drew, ended, looked, next_view, one_more, spent_view, with_joined};
-ghost use Rattle.std.specs.Prelude.{◌≡◌};
+ghost use Rattle.al_turn.specs.Views.{Fetched, GivenBack, drew, ended, joined_of, looked, next_view, one_more, spent_view, with_joined};
+ghost use Rattle.std.specs.Prelude.{◌≡◌, [], ◌∷◌};
 
 use crate::view::View;
 use al_model::Kept;

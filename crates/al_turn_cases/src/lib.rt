@@ -4,4 +4,6 @@
 #![tactic(auto)]
 
 #[cfg(test)]
+mod tally;
+#[cfg(test)]
 mod threads;

@@ -2,8 +2,7 @@ ghost use Rattle.al_turn.specs.Identities.{HasTurn, one_less};
 ghost use Rattle.al_turn.specs.Passes.{identity_of};
 ghost use Rattle.std.specs.Prelude.{◌≡◌, ◌^◌, ◌<◌, true, false};
 
-use al_base::Stamp;
-use al_case_parts::Tally;
+use crate::tally::Tally;
 use al_model::Kept;
 use al_turn::{Alone, Pass, Seated, Turns, Turnstile};
 use std::sync::Wait;
@@ -13,8 +12,7 @@ use std::thread;
 /// How many turns each thread takes.
 const TURNS: u64 = 1_000;
 
-/// One turn after so many: adds an entry whose time is the turn's number. False where the entry of
-/// the turn before isn't shown, or there was no memory.
+/// One turn after so many: adds an entry. False where the entry of the turn before isn't shown, or there was no memory.
 fn turn<U: Turns<Tally>>(turns: &mut U, origin: u16, done: u64) -> bool
     requires idle { U.taken turns.old ≡ false }
     requires left { HasTurn (U.left turns.old) }
@@ -27,8 +25,7 @@ fn turn<U: Turns<Tally>>(turns: &mut U, origin: u16, done: u64) -> bool
 {
     let mut tally = turns.take();
     let is_shown = tally.newest(origin) == done;
-    let time = Stamp::of(done + 1).unwrap_or(Stamp::LAST);
-    let is_added = tally.add(origin, time).is_ok();
+    let is_added = tally.add(origin, done + 1).is_ok();
     turns.put(tally);
     is_shown && is_added
 }

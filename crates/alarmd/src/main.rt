@@ -7,12 +7,12 @@ mod tcp_door;
 mod words;
 
 ghost use Rattle.std.specs.Prelude.{◌≡◌, IfOk, vec_len};
-ghost use Rattle.al_commands.specs.Words.{IsOneServe, IsServe};
+ghost use Rattle.al_server.specs.ServeWords.{IsServe};
 
 use al_base::{Reading, SystemClock, Text, Writing};
-use al_commands::{Command, ServeWords, run, status};
+use al_commands::{Command, run, status};
 use al_disk::FileDisk;
-use al_server::run_serve;
+use al_server::{ServeWords, run_serve};
 use journal_file::{Access, disk_at};
 use standard::StandardNumbers;
 use std::alloc::{AllocError, Global};
@@ -29,46 +29,38 @@ fn main(rt: HostRuntime) -> ExitCode {
         return ExitCode::from(status::OUT_OF_MEMORY);
     };
     let words = words.as_slice();
-    let status = match Command::of(words) {
-        Some(Command::Serve(serve)) => serve_on_disk(rt, words, serve),
-        command => run_on_disk(rt, words, command),
+    let Some(asked) = ServeWords::of(words) else {
+        return ExitCode::from(run_on_disk(rt, words));
     };
-    ExitCode::from(status)
-}
-
-/// Serves on the file that the words name. Each worker has a door and a clock of its own.
-fn serve_on_disk(rt: HostRuntime, words: &[Text], serve: ServeWords) -> u8
-    requires { IsOneServe words.now serve }
-{
-    let workers = workers_of(words, serve);
-    let address = SocketAddr::V4(SocketAddrV4::new(serve.address.ip, serve.address.port));
+    // Each worker has a door and a clock of its own.
+    let workers = workers_of(words, asked);
+    let address = SocketAddr::V4(SocketAddrV4::new(asked.address.ip, asked.address.port));
     let (Ok(doors), Ok(clocks)) = (
         doors_at(rt, rt.alloc(), address, workers),
         clocks_of(rt, rt.alloc(), workers),
     ) else {
-        return status::OUT_OF_MEMORY;
+        return ExitCode::from(status::OUT_OF_MEMORY);
     };
     let disk = disk_at(&rt, journal_in(words), Access::Add);
     let mut sink = Writing::new(rt.stdout());
     let (status, ..) = run_serve(&rt, rt.alloc(), words, disk, doors, clocks, &mut sink);
-    status
+    ExitCode::from(status)
 }
 
-/// Does on the file that the words name what they ask for, which is this command.
-fn run_on_disk(rt: HostRuntime, words: &[Text], command: Option<Command>) -> u8 {
+/// Does what the words ask for on the file that they name.
+fn run_on_disk(rt: HostRuntime, words: &[Text]) -> u8 {
     let journal = journal_in(words);
-    let disk = match command {
+    let disk = match Command::of(words) {
         Some(Command::Init { capacity }) => disk_at(&rt, journal, Access::Make(capacity)),
         Some(Command::Session) => disk_at(&rt, journal, Access::Add),
         Some(Command::Check) => disk_at(&rt, journal, Access::Look),
         _ => FileDisk::closed(),
     };
     let (status, mut disk) = run_on(rt, words, disk);
-    if let Some(Command::Init { capacity }) = command
+    if let Some(Command::Init { capacity }) = Command::of(words)
         && status == status::DONE
     {
-        // A commit in a file that has the length of its journal changes no length. A journal whose
-        // file stays short is as good.
+        // A commit in a file that has the length of its journal changes no length. A journal whose file stays short is as good.
         let _ = disk.lengthen(capacity);
     }
     status
@@ -83,12 +75,12 @@ fn run_on(rt: HostRuntime, words: &[Text], disk: FileDisk<File>) -> (u8, FileDis
     run(alloc, words, disk, &mut source, &mut sink, &mut clock)
 }
 
-/// How many workers the words ask for: they ask for no other number.
-fn workers_of(words: &[Text], serve: ServeWords) -> usize
-    requires { IsOneServe words.now serve }
-    ensures { (other : ServeWords) → IsServe words.now other → result ≡ other.workers }
+/// How many workers the row asks for: no other row has the same words.
+fn workers_of(words: &[Text], asked: ServeWords) -> usize
+    requires { IsServe words.now asked }
+    ensures { (serve : ServeWords) → IsServe words.now serve → result ≡ serve.workers }
 {
-    usize::from(serve.workers)
+    usize::from(asked.workers)
 }
 
 fn clocks_of<R: Clock + Copy + Drop>(

@@ -1,6 +1,6 @@
 use Rattle.std.proofs.Common.{◌≡◌}
 use Rattle.al_commands.proofs.Asking.{asks_check, asks_drill, asks_init, asks_row, asks_session, within_row}
-use Rattle.al_commands.specs.declared.command.Command.TheVariants.{Check, Drill, Init, Serve, Session}
+use Rattle.al_commands.specs.declared.command.Command.TheVariants.{Check, Drill, Init, Session}
 use Rattle.al_commands.proofs.program.run.Goals as goal
 
 pub run_command-requires : goal.run_command-requires
@@ -27,22 +27,20 @@ returns-in-Some-clause-drill g c = λ seed count is.
     rw e at c.run_command.ensures.does
 
 pub returns-in-Some-clause-usage : goal.returns-in-Some-clause-usage
-returns-in-Some-clause-usage g c = λ none.
-    let e : c.in-Some.command ≡ Serve (asks_row _ c.in-Some.command c.in-Some.ensures none).0 = (asks_row _ c.in-Some.command c.in-Some.ensures none).1 in
-    rw e at c.run_command.ensures.does
+returns-in-Some-clause-usage g c = λ none. absurd (asks_row _ c.in-Some.command c.in-Some.ensures none)
 
 pub returns-in-Some-clause-untouched : goal.returns-in-Some-clause-untouched
 returns-in-Some-clause-untouched g c = λ other.
     c.run_command.ensures.untouched (λ is. other (rw is at c.in-Some.ensures))
 
 pub returns-in-None-clause-init : goal.returns-in-None-clause-init
-returns-in-None-clause-init g c = λ capacity is. absurd (c.in-None.ensures.0.no_init capacity is)
+returns-in-None-clause-init g c = λ capacity is. absurd (c.in-None.ensures.no_init capacity is)
 
 pub returns-in-None-clause-session : goal.returns-in-None-clause-session
-returns-in-None-clause-session g c = λ is. absurd (c.in-None.ensures.0.no_session is)
+returns-in-None-clause-session g c = λ is. absurd (c.in-None.ensures.no_session is)
 
 pub returns-in-None-clause-check : goal.returns-in-None-clause-check
-returns-in-None-clause-check g c = λ is. absurd (c.in-None.ensures.0.no_check is)
+returns-in-None-clause-check g c = λ is. absurd (c.in-None.ensures.no_check is)
 
 pub returns-in-None-clause-drill : goal.returns-in-None-clause-drill
-returns-in-None-clause-drill g c = λ seed count is. absurd (c.in-None.ensures.0.no_drill seed count is)
+returns-in-None-clause-drill g c = λ seed count is. absurd (c.in-None.ensures.no_drill seed count is)

@@ -12,6 +12,3 @@ returns-in-Check-clause-does g c = rw c.in-Check.is c.run_check.ensures.checked
 
 pub returns-in-Drill-clause-does : goal.returns-in-Drill-clause-does
 returns-in-Drill-clause-does g c = rw c.in-Drill.is (c.run_drill.ensures.drilled, refl)
-
-pub returns-in-Serve-clause-does : goal.returns-in-Serve-clause-does
-returns-in-Serve-clause-does g c = rw c.in-Serve.is (c.refuse_words.ensures.usage, refl)

@@ -3,8 +3,8 @@ use Rattle.std.proofs.lemmas.List.Elements.{All-nil, All-push, All-same}
 use Rattle.al_base.specs.Readings.{Readings}
 use Rattle.al_serve.specs.Workers.{IsReady, work_of}
 use Rattle.al_serve.specs.declared.worker.Worker.{Worker}
-use Rattle.al_case_parts.specs.declared.tally.Tally.{Tally}
-use Rattle.al_serve_cases.specs.declared.adder.Adder.{Adder}
+use Rattle.al_serve_cases.specs.declared.tally.Adder.{Adder}
+use Rattle.al_serve_cases.specs.declared.tally.Tally.{Tally}
 use Rattle.al_serve_cases.proofs.serving.both.Goals as goal
 
 pub returns-clause-ready : goal.returns-clause-ready

@@ -1,5 +1,5 @@
 use Rattle.std.proofs.Common.{◌∙◌, sym, subst, List, ℕ, arith}
-use Rattle.al_commands.specs.Words.{IsServe}
+use Rattle.al_server.specs.ServeWords.{IsServe}
 use Rattle.al_server_cases.proofs.together.are_served.Goals as goal
 
 pub run_serve-status-requires-clause-doors : goal.run_serve-status-requires-clause-doors

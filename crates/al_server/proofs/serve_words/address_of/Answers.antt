@@ -1,7 +1,7 @@
 use Rattle.std.proofs.Common.{sym, subst}
 use Rattle.std.specs.Net.Grammar.{IsIpv4Text}
-use Rattle.al_commands.proofs.Colons.{no_address, parts_are}
-use Rattle.al_commands.proofs.serve_words.address_of.Goals as goal
+use Rattle.al_server.proofs.Colons.{no_address, parts_are}
+use Rattle.al_server.proofs.serve_words.address_of.Goals as goal
 
 pub returns-in_err-ip : goal.returns-in_err-ip
 returns-in_err-ip c = rw c.from_residual.ensures (λ address. no_address c.args.text.now address c.in_err-ip.ensures.none)

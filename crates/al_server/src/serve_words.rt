@@ -1,15 +1,15 @@
 //! The words of `serve`.
 
-ghost use Rattle.std.specs.Prelude.{◌∷◌, [], IfNone, IfSome, codes};
-ghost use Rattle.al_commands.specs.Addresses.{HasNoColon, SplitsAtColon, TellsAddress};
-ghost use Rattle.al_commands.specs.Words.{AskToServe, IsCount, IsOneServe};
+ghost use Rattle.std.specs.Prelude.{◌≡◌, ◌≤◌, ◌∷◌, ◌++◌, [], ℕ, IfNone, IfSome, codes};
+ghost use Rattle.al_server.specs.Addresses.{HasNoColon, SplitsAtColon, TellsAddress};
+ghost use Rattle.al_server.specs.ServeWords.{AskToServe, IsCount, IsOneServe};
 
-use crate::command::{Command, is_journal, number};
 use al_base::Text;
+use al_commands::command::{is_journal, number};
 use std::net::Ipv4Addr;
 
 /// How the command line asks to serve: `serve JOURNAL ADDRESS WORKERS CONNECTIONS`.
-#[derive(Clone, Copy, Debug, PartialEq, Eq)]
+#[derive(Clone, Copy)]
 pub struct ServeWords {
     /// Where connections come to.
     pub address: Address,
@@ -20,7 +20,7 @@ pub struct ServeWords {
 }
 
 /// `a.b.c.d:port`.
-#[derive(Clone, Copy, Debug, PartialEq, Eq)]
+#[derive(Clone, Copy)]
 pub struct Address {
     pub ip: Ipv4Addr,
     pub port: u16,
@@ -33,32 +33,38 @@ const MOST_WORKERS: u64 = 64;
 const MOST_CONNECTIONS: u64 = 1_000_000;
 
 impl ServeWords {
-    /// How these words ask to serve, None where they don't.
+    /// How these words ask to serve, None where they are no row that does.
     pub fn of(words: &[Text]) -> Option<ServeWords>
         ensures asked { AskToServe words.now result }
         ensures one { IfSome result (λ serve. IsOneServe words.now serve) }
     {
-        match Command::of(words) {
-            Some(Command::Serve(serve)) => Some(serve),
+        match words {
+            [name, journal, address, workers, connections] => of_five(
+                name.bytes(),
+                journal.bytes(),
+                address.bytes(),
+                workers.bytes(),
+                connections.bytes(),
+            ),
             _ => None,
         }
     }
 }
 
-/// How the words behind `serve` ask to serve, None where there is no such row.
-pub(crate) fn serve(
+fn of_five(
+    name: &[u8],
     journal: &[u8],
     address: &[u8],
     workers: &[u8],
     connections: &[u8],
 ) -> Option<ServeWords>
-    ensures asked { AskToServe (codes "serve" ∷ journal.now ∷ address.now ∷ workers.now
-        ∷ connections.now ∷ []) result }
+    ensures asked { AskToServe (name.now ∷ journal.now ∷ address.now ∷ workers.now ∷ connections.now
+        ∷ []) result }
     ensures one { IfSome result (λ serve.
-        IsOneServe (codes "serve" ∷ journal.now ∷ address.now ∷ workers.now ∷ connections.now ∷ [])
+        IsOneServe (name.now ∷ journal.now ∷ address.now ∷ workers.now ∷ connections.now ∷ [])
         serve) }
 {
-    if !is_journal(journal) {
+    if name != b"serve".as_slice() || !is_journal(journal) {
         return None;
     }
     let address = address_of(address)?;
@@ -71,7 +77,7 @@ pub(crate) fn serve(
     })
 }
 
-/// The number that the digits write, from 1 to `greatest`.
+/// The number from 1 on that the digits are, where it is this great at most.
 fn count(digits: &[u8], greatest: u64) -> Option<u64>
     ensures { IsCount digits.now greatest result }
 {
@@ -99,6 +105,6 @@ fn at_colon(text: &[u8]) -> Option<(&[u8], &[u8])>
     ensures some { IfSome result (λ parts. SplitsAtColon text.now parts.0.now parts.1.now) }
     ensures none { IfNone result (HasNoColon text.now) }
 {
-    let colon = text.iter().position(|byte| *byte == b':')?;
-    Some((&text[..colon], &text[colon + 1..]))
+    let place = text.iter().position(|byte| *byte == b':')?;
+    Some((&text[..place], &text[place + 1..]))
 }

@@ -4,8 +4,8 @@ use Rattle.std.specs.Prelude.{codes, decimal}
 use Rattle.std.specs.Net.Grammar.{IsDotted, IsIpv4Text}
 use Rattle.std.specs.declared.net.ipv4_addr.Ipv4Addr.{Ipv4Addr}
 use Rattle.std.proofs.lemmas.Fmt.{decimal_by_steps}
-use Rattle.al_commands.specs.Addresses.{HasNoColon, IsAddress, SplitsAtColon, colon}
-use Rattle.al_commands.specs.declared.serve_words.Address.{Address}
+use Rattle.al_server.specs.Addresses.{HasNoColon, IsAddress, SplitsAtColon, colon}
+use Rattle.al_server.specs.declared.serve_words.Address.{Address}
 
 no_colon_append : (xs ys : List ℕ) → HasNoColon xs → HasNoColon ys → HasNoColon (xs ++ ys)
 no_colon_append [] ys none_first none_second = none_second

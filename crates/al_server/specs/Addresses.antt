@@ -2,7 +2,7 @@
 use Rattle.std.specs.Prelude.{◌≡◌, ◌≢◌, ◌≤◌, List, ◌∷◌, ◌++◌, ℕ, Option, None, Some, decimal}
 use Rattle.std.specs.List.{AllByRecursion}
 use Rattle.std.specs.Net.Grammar.{IsIpv4Text}
-use Rattle.al_commands.specs.declared.serve_words.Address.{Address}
+use Rattle.al_server.specs.declared.serve_words.Address.{Address}
 
 abbrev pub colon : ℕ
 colon = 58

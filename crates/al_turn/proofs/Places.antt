@@ -1,4 +1,4 @@
--- Views in their list, after one of them changed.
+-- Views by their places, after one of them changed.
 use Rattle.std.proofs.Common.{◌≡◌, ◌≢◌, ℕ, zero, suc, ◌+◌, ◌-◌, ◌≤◌, nat_lt, lt-ltb, Bool, true, cond, List, [], ◌∷◌, ◌++◌, length, set, sym, ap, subst, arith, ⊎_elim}
 use mathlib.Core.Option.{some, some-injective, some-ne-none}
 use lib.ListN.{get_elem?}
@@ -25,11 +25,11 @@ pub total-append : (us vs : List View) → total (us ++ vs) ≡ total us + total
 total-append [] vs = omega arith
 total-append (u ∷ us) vs = let e = total-append us vs in omega arith
 
--- a view at an index stands in the list
-pub is_within : (views : List View) (id : ℕ) (v : View) → get_elem? views id ≡ some v → suc id ≤ length views
-is_within [] id v at = absurd (some-ne-none v (sym at))
-is_within (u ∷ us) zero v at = omega arith
-is_within (u ∷ us) (suc id) v at = let e = is_within us id v at in omega arith
+-- a view at a place stands in the list
+pub is_place : (views : List View) (id : ℕ) (v : View) → get_elem? views id ≡ some v → suc id ≤ length views
+is_place [] id v at = absurd (some-ne-none v (sym at))
+is_place (u ∷ us) zero v at = omega arith
+is_place (u ∷ us) (suc id) v at = let e = is_place us id v at in omega arith
 
 -- what one pass may draw is within what all may
 pub draws_within : (views : List View) (id : ℕ) (v : View) → get_elem? views id ≡ some v → to_draw v ≤ total views

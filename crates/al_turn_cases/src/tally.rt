@@ -1,9 +1,6 @@
-//! A value that is a history alone.
-
-ghost use Rattle.al_case_parts.specs.Tallies.{mark_of};
-ghost use Rattle.al_http.specs.Services.{Adds};
 ghost use Rattle.al_turn.specs.Histories.{GoesOn, MadeBy, further};
-ghost use Rattle.std.specs.Prelude.{◌≡◌, Bool, ℕ, OnErr, true};
+ghost use Rattle.al_turn_cases.specs.Tallies.{mark_of};
+ghost use Rattle.std.specs.Prelude.{◌≡◌, Bool, ℕ, true};
 
 use al_base::Stamp;
 use al_model::{Entry, Event, Kept};
@@ -12,7 +9,7 @@ use std::alloc::{AllocError, Global};
 /// A history alone.
 #[derive(Drop)]
 pub struct Tally {
-    pub entries: Vec<Entry>,
+    entries: Vec<Entry>,
 }
 
 impl Kept for Tally {
@@ -31,15 +28,13 @@ impl Tally {
         }
     }
 
-    /// Adds an entry of the origin with that time, or there was no memory.
-    pub fn add(&mut self, origin: u16, time: Stamp) -> Result<(), AllocError>
+    /// Adds the entry of the origin's turn of that number.
+    pub fn add(&mut self, origin: u16, turn: u64) -> Result<(), AllocError>
         ensures grows { GoesOn (mark_of self.old.entries.items) (mark_of self.new.entries.items) }
         ensures own { (origins : ℕ → Bool) → origins origin ≡ true
             → MadeBy origins (further self.new.entries.items self.old.entries.items) }
-        ensures adds { Adds origin (mark_of self.old.entries.items)
-            (mark_of self.new.entries.items) }
-        ensures err { OnErr result (self.new.entries.items ≡ self.old.entries.items) }
     {
+        let time = Stamp::of(turn).unwrap_or(Stamp::LAST);
         let event = Event::SetMax(None);
         self.entries.push(Entry {
             time,
@@ -54,14 +49,14 @@ impl Tally {
         self.entries.iter().filter(|e| e.origin == origin).count()
     }
 
-    /// The time of the origin's newest entry, 0 where it has none.
+    /// Which turn of the origin made its newest entry, 0 where it has none.
     pub fn newest(&self, origin: u16) -> u64 {
-        let mut time = 0;
+        let mut turn = 0;
         for entry in &self.entries {
             if entry.origin == origin {
-                time = entry.time.ms();
+                turn = entry.time.ms();
             }
         }
-        time
+        turn
     }
 }

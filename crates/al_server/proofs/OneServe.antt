@@ -2,8 +2,8 @@
 use Rattle.std.proofs.Common.{◌≡◌, ℕ, ◌≤◌, List, [], ◌∷◌, ◌∙◌, arith}
 use Rattle.std.specs.Prelude.{decimal}
 use Rattle.std.proofs.lemmas.Fmt.{decimal_injective}
-use Rattle.al_commands.specs.Words.{IsOneServe, IsServe}
-use Rattle.al_commands.specs.declared.serve_words.ServeWords.{ServeWords}
+use Rattle.al_server.specs.ServeWords.{IsOneServe, IsServe}
+use Rattle.al_server.specs.declared.serve_words.ServeWords.{ServeWords}
 
 same_workers : (words : List (List ℕ)) (name journal address workers connections : List ℕ) (other : ServeWords) → words ≡ name ∷ journal ∷ address ∷ workers ∷ connections ∷ [] → IsServe words other → decimal other.workers ≡ workers
 same_workers words name journal address workers connections other are is = let row = is.row in cc

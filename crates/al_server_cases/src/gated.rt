@@ -22,7 +22,6 @@ pub struct Piece {
 }
 
 impl Piece {
-    /// A text that may be given then.
     pub fn new(writes: u64, text: String) -> Piece {
         Piece {
             writes,
@@ -30,7 +29,6 @@ impl Piece {
         }
     }
 
-    /// A copy of bytes that may be given then.
     pub fn of(alloc: Global, writes: u64, bytes: &[u8]) -> Result<Piece, AllocError> {
         Ok(Piece {
             writes,
@@ -46,11 +44,10 @@ pub struct GatedSource {
     next: usize,
     taken: usize,
     others: Count,
-    pub faults: u64,
+    faults: u64,
 }
 
 impl GatedSource {
-    /// A source of these pieces, which waits for the writes that are counted there.
     pub fn new(pieces: Vec<Piece>, others: &Count) -> Result<GatedSource, AllocError> {
         Ok(GatedSource {
             pieces,
@@ -108,10 +105,9 @@ pub struct CountedSink {
 }
 
 impl CountedSink {
-    /// A sink of so much room, whose writes are counted there.
-    pub fn new(alloc: Global, room: usize, writes: &Count) -> Result<CountedSink, AllocError> {
+    pub fn new(alloc: Global, writes: &Count) -> Result<CountedSink, AllocError> {
         Ok(CountedSink {
-            sink: MemSink::new(alloc, room, &[])?,
+            sink: MemSink::new(alloc, 100_000, &[])?,
             writes: Arc::try_clone(writes)?,
         })
     }

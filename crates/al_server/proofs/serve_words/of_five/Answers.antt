@@ -1,8 +1,7 @@
 use Rattle.std.proofs.Common.{◌≡◌, refl, subst}
-use Rattle.std.specs.Prelude.{codes}
-use Rattle.al_commands.proofs.OneServe.{one_serve}
-use Rattle.al_commands.specs.Addresses.{IsAddress}
-use Rattle.al_commands.proofs.serve_words.serve.Goals as goal
+use Rattle.al_server.proofs.OneServe.{one_serve}
+use Rattle.al_server.specs.Addresses.{IsAddress}
+use Rattle.al_server.proofs.serve_words.of_five.Goals as goal
 
 pub returns-in_err-address-clause-asked : goal.returns-in_err-address-clause-asked
 returns-in_err-address-clause-asked c =
@@ -15,4 +14,4 @@ pub returns-clause-one : goal.returns-clause-one
 returns-clause-one c =
     let workers = c.in_ok-workers.ensures in
     let connections = c.in_ok-connections.ensures in
-    one_serve _ (codes "serve") c.args.journal.now c.args.address.now c.args.workers.now c.args.connections.now _ refl workers.0 connections.0 workers.2 connections.2
+    one_serve _ c.args.name.now c.args.journal.now c.args.address.now c.args.workers.now c.args.connections.now _ refl workers.0 connections.0 workers.2 connections.2
